@@ -1,0 +1,98 @@
+use borrow.Author.Needs.{needs}
+use native.Mathlib.Omega.{arith}
+use Prim.Native.Nat.{_+_, _-_, _≤_}
+use mathlib.Core.Path.{_≡_, sym, _∙_}
+use Rattle.der.proofs.Laws.{tests}
+use Rattle.der.specs.Model.{sameList, sameParts}
+use Rattle.der.specs.Places.{part}
+use Rattle.der.proofs.Equal.{same-parts, same-short, same-start, same-turn, same-differ, same-end}
+use Rattle.der.proofs.same.Statement.{statement}
+use Rattle.der.proofs.same.Tie as tie
+
+abbrev Inv-loop : tie.InvT-loop
+Inv-loop s a b t c d i₀ i = (i ≤ b - a) × (sameList (part s (a + i) b) (part t (c + i) d) ≡ sameParts s a b t c d)
+
+abbrev μ-loop : tie.MeasureT-loop
+μ-loop s a b t c d i₀ i = (b - a) - i
+
+returns : tie.Need-returns Inv-loop μ-loop
+unfolding sameParts
+returns c = search tests
+
+returns-2 : tie.Need-returns-2 Inv-loop μ-loop
+unfolding sameParts
+returns-2 c = search tests
+
+returns-3 : tie.Need-returns-3 Inv-loop μ-loop
+unfolding sameParts
+returns-3 c = search tests
+
+returns-4 : tie.Need-returns-4 Inv-loop μ-loop
+unfolding sameParts
+returns-4 c = search tests
+
+returns-5 : tie.Need-returns-5 Inv-loop μ-loop
+returns-5 c =
+    sym
+    (same-parts _ _ _ _ _ _ (omega arith) (omega arith) (omega arith) (omega arith)
+    ∙ same-short _ _ _ _ _ _ (omega arith) (omega arith) (c .if5 .taken))
+
+loop-holds : tie.Need-loop-holds Inv-loop μ-loop
+loop-holds c =
+    (omega arith, same-start _ _ _ _ _ _ ∙ sym (same-parts _ _ _ _ _ _ (omega arith) (omega arith) (omega arith) (omega arith)))
+
+add-if6 : tie.Need-add-if6 Inv-loop μ-loop
+add-if6 c = omega arith
+
+shared-slice-read-if6 : tie.Need-shared-slice-read-if6 Inv-loop μ-loop
+shared-slice-read-if6 c = omega arith
+
+add-if6-2 : tie.Need-add-if6-2 Inv-loop μ-loop
+add-if6-2 c = omega arith
+
+shared-slice-read-if6-2 : tie.Need-shared-slice-read-if6-2 Inv-loop μ-loop
+shared-slice-read-if6-2 c = omega arith
+
+returns-6 : tie.Need-returns-6 Inv-loop μ-loop
+returns-6 c =
+    sym
+    (sym (c .before .before .before .before .loop .inv .1)
+    ∙ same-differ _ _ _ _ _ _ _ (omega arith) (omega arith) (omega arith) (omega arith) (c .if6 .taken))
+
+add-i : tie.Need-add-i Inv-loop μ-loop
+add-i c = omega arith
+
+loop-less : tie.Need-loop-less Inv-loop μ-loop
+loop-less c = omega arith
+
+loop-again : tie.Need-loop-again Inv-loop μ-loop
+loop-again c = (
+  omega arith,
+  same-turn _ _ _ _ _ _ _ (omega arith) (omega arith) (omega arith) (omega arith) (c .if6 .left)
+      ∙ c .before .before .before .before .loop .inv .1,
+)
+
+returns-7 : tie.Need-returns-7 Inv-loop μ-loop
+returns-7 c = sym (sym (c .before .loop .inv .1) ∙ same-end _ _ _ _ _ _ _ (omega arith) (omega arith))
+
+pub same-spec : {M : Type 1} → statement M
+same-spec =
+    tie.close
+    (tie.spec
+    Inv-loop
+    μ-loop
+    returns
+    returns-2
+    returns-3
+    returns-4
+    returns-5
+    loop-holds
+    add-if6
+    shared-slice-read-if6
+    add-if6-2
+    shared-slice-read-if6-2
+    returns-6
+    add-i
+    loop-less
+    loop-again
+    returns-7)

@@ -1,0 +1,213 @@
+-- What the code answers, as functions of the bytes: the same tests in the same order.
+use Prim.Native.Nat.{ℕ, zero, suc, _+_, _-_, _*_, _/_, _%_, _^_, _<_}
+use mathlib.Core.Path.{_≡_}
+use mathlib.Core.List.{List, [], _∷_}
+use mathlib.Core.Bool.{Bool, true, false, cond}
+use lib.ListN.{length, getD}
+use lib.Dec.{ltb, leb, eqb}
+use Rattle.refusal.specs.Refusals.{badDer, trailingBool, trailingBitString}
+use Rattle.der.specs.declared.Length.{Length}
+use Rattle.der.specs.declared.Length.the-variants.{Is, Bad}
+use Rattle.der.specs.declared.Read.{Read}
+use Rattle.der.specs.declared.Read.the-variants.{Value, Refused}
+use Rattle.der.specs.declared.Span.{Span}
+use Rattle.der.specs.declared.Got.{Got}
+use Rattle.der.specs.declared.Got.the-variants.{Content, Refused as NoContent}
+use Rattle.der.specs.declared.Count.{Count}
+use Rattle.der.specs.declared.Count.the-variants.{Values, Broken}
+use Rattle.der.specs.declared.small.Truth.{Truth}
+use Rattle.der.specs.declared.small.Truth.the-variants.{Is as Said, Refused as NoTruth}
+use Rattle.der.specs.declared.small.Small.{Small}
+use Rattle.der.specs.declared.small.Small.the-variants.{Number, Refused as NoNumber}
+use Rattle.der.specs.Places.{part}
+use Rattle.der.specs.Loop.{walk}
+
+-- a byte, as a number to count with
+pub record ByteAt (s : List ℕ) (at r : ℕ) : Type 0 where
+  pub is : r ≡ getD s at 0
+  pub small : r < 256
+
+-- the low five bits are all ones
+unfoldable pub highTag : ℕ → Bool
+highTag t = eqb (t % 32) 31
+
+-- the k bytes at a place as one number, highest byte first
+unfoldable pub numberAt : List ℕ → ℕ → ℕ → ℕ
+numberAt s at zero = 0
+numberAt s at (suc k) = numberAt s at k * 256 + getD s (at + k) 0
+
+-- the least length that takes k bytes after the first
+unfoldable pub least : ℕ → ℕ
+least k = cond (eqb k 1) 128 (cond (eqb k 2) 256 (cond (eqb k 3) 65536 16777216))
+
+-- a length of k bytes after its first, k from 1 to 4
+unfoldable pub longForm : List ℕ → ℕ → ℕ → ℕ → Length
+longForm s at to k =
+    cond (leb (to - at) k)
+    Bad
+    (cond (ltb (numberAt s (at + 1) k) (least k)) Bad (Is (numberAt s (at + 1) k) (at + 1 + k)))
+
+-- a length, by its first byte
+unfoldable pub byFirst : List ℕ → ℕ → ℕ → ℕ → Length
+byFirst s at to b =
+    cond (ltb b 128)
+    (Is b (at + 1))
+    (cond (ltb b 129) Bad (cond (ltb 132 b) Bad (longForm s at to (b - 128))))
+
+unfoldable pub readLength : List ℕ → ℕ → ℕ → Length
+readLength s at to =
+    cond (ltb (length s) to) Bad (cond (leb to at) Bad (byFirst s at to (getD s at 0)))
+
+-- the value of a tag and a length
+unfoldable pub withLength : ℕ → ℕ → ℕ → Length → Read
+withLength tag to limit (Is len next) =
+    cond (leb limit len) Refused (cond (ltb (to - next) len) Refused (Value tag next (next + len)))
+withLength tag to limit Bad = Refused
+
+unfoldable pub readLimited : List ℕ → ℕ → ℕ → ℕ → Read
+readLimited s from to limit =
+    cond (ltb (length s) to)
+    Refused
+    (cond (leb to from)
+    Refused
+    (cond (highTag (getD s from 0)) Refused (withLength (getD s from 0) to limit (readLength s (from + 1) to))))
+
+-- every content in a certificate is shorter
+abbrev pub LIMIT : ℕ
+LIMIT = 65535
+
+unfoldable pub readValue : List ℕ → ℕ → ℕ → Read
+readValue s from to = readLimited s from to LIMIT
+
+unfoldable pub ofTag : ℕ → ℕ → Read → Got
+ofTag tag refusal (Value t a b) =
+    cond (eqb t tag) (Content (record { start = a; end = b })) (NoContent refusal)
+ofTag tag refusal Refused = NoContent refusal
+
+unfoldable pub expectAt : List ℕ → ℕ → ℕ → ℕ → ℕ → Got
+expectAt s from to tag refusal = ofTag tag refusal (readValue s from to)
+
+-- go on with a content, or with the refusal
+unfoldable pub onContent : {R : Type 0} → Got → (ℕ → R) → (ℕ → ℕ → R) → R
+onContent (Content p) other k = k (p .start) (p .end)
+onContent (NoContent e) other k = other e
+
+-- ---- values in a row
+unfoldable pub oneMore : Read → ℕ → (ℕ → ℕ → Count) → Count
+oneMore (Value tag start end) n go = go end (n + 1)
+oneMore Refused n go = Broken
+
+unfoldable pub allCounted : ℕ → ℕ → ℕ → Count
+allCounted to at n = cond (eqb at to) (Values n) Broken
+
+unfoldable pub countValues : List ℕ → ℕ → ℕ → Count
+countValues s from to = walk to (allCounted to) (λ at n. oneMore (readValue s at to) n) from 0
+
+-- ---- two parts
+unfoldable pub sameList : List ℕ → List ℕ → Bool
+sameList [] [] = true
+sameList [] (y ∷ ys) = false
+sameList (x ∷ xs) [] = false
+sameList (x ∷ xs) (y ∷ ys) = cond (eqb x y) (sameList xs ys) false
+
+unfoldable pub sameParts : List ℕ → ℕ → ℕ → List ℕ → ℕ → ℕ → Bool
+sameParts s a b t c d =
+    cond (ltb b a)
+    false
+    (cond (ltb (length s) b)
+    false
+    (cond (ltb d c)
+    false
+    (cond (ltb (length t) d) false (sameList (part s a b) (part t c d)))))
+
+-- ---- BOOLEAN
+-- a value of which nothing may be left over
+unfoldable pub onlyByte : ℕ → ℕ → Bool → Truth
+onlyByte from to value = cond (eqb (to - from) 1) (Said value to) (NoTruth trailingBool)
+
+unfoldable pub truthIn : List ℕ → ℕ → ℕ → Truth
+truthIn s from to =
+    cond (ltb (length s) to)
+    (NoTruth badDer)
+    (cond (leb to from)
+    (NoTruth badDer)
+    (cond (eqb (getD s from 0) 255)
+    (onlyByte from to true)
+    (cond (eqb (getD s from 0) 0) (onlyByte from to false) (NoTruth badDer))))
+
+unfoldable pub readBool : List ℕ → ℕ → ℕ → Truth
+readBool s from to =
+    cond (ltb (length s) to)
+    (NoTruth badDer)
+    (cond (leb to from)
+    (Said false from)
+    (cond (eqb (getD s from 0) 1)
+    (onContent (expectAt s from to 1 trailingBool) NoTruth (truthIn s))
+    (Said false from)))
+
+-- ---- INTEGER
+unfoldable pub positiveIn : List ℕ → ℕ → ℕ → Got
+positiveIn s from to =
+    cond (ltb (length s) to)
+    (NoContent badDer)
+    (cond (leb to from)
+    (NoContent badDer)
+    (cond (leb 128 (getD s from 0))
+    (NoContent badDer)
+    (cond (ltb 0 (getD s from 0))
+    (Content (record { start = from; end = to }))
+    (cond (eqb (to - from) 1)
+    (Content (record { start = from; end = to }))
+    (cond (ltb (getD s (from + 1) 0) 128)
+    (NoContent badDer)
+    (Content (record { start = from + 1; end = to })))))))
+
+unfoldable pub nonnegative : List ℕ → ℕ → ℕ → Got
+nonnegative s from to = onContent (expectAt s from to 2 badDer) NoContent (positiveIn s)
+
+unfoldable pub smallIn : List ℕ → ℕ → ℕ → Small
+smallIn s from to =
+    cond (ltb (length s) to)
+    (NoNumber badDer)
+    (cond (leb to from)
+    (NoNumber badDer)
+    (cond (eqb (to - from) 1) (Number (getD s from 0) to) (NoNumber badDer)))
+
+unfoldable pub readSmall : List ℕ → ℕ → ℕ → Small
+readSmall s from to = onContent (nonnegative s from to) NoNumber (smallIn s)
+
+-- ---- BIT STRING
+unfoldable pub wholeOctets : List ℕ → ℕ → ℕ → Got
+wholeOctets s from to =
+    cond (ltb (length s) to)
+    (NoContent badDer)
+    (cond (leb to from)
+    (NoContent badDer)
+    (cond (eqb (getD s from 0) 0) (Content (record { start = from + 1; end = to })) (NoContent badDer)))
+
+unfoldable pub bitsAt : List ℕ → ℕ → ℕ → Got
+bitsAt s from to = onContent (expectAt s from to 3 trailingBitString) NoContent (wholeOctets s)
+
+unfoldable pub flagsIn : List ℕ → ℕ → ℕ → Got
+flagsIn s from to =
+    cond (ltb (length s) to)
+    (NoContent badDer)
+    (cond (leb to from)
+    (NoContent badDer)
+    (cond (ltb 7 (getD s from 0))
+    (NoContent badDer)
+    (cond (eqb (to - from) 1)
+    (cond (ltb 0 (getD s from 0)) (NoContent badDer) (Content (record { start = from + 1; end = to })))
+    (cond (eqb (getD s (to - 1) 0 % (2 ^ getD s from 0)) 0)
+    (Content (record { start = from + 1; end = to }))
+    (NoContent badDer)))))
+
+unfoldable pub flagAt : List ℕ → ℕ → ℕ → ℕ → Bool
+flagAt s from to k =
+    cond (ltb (length s) to)
+    false
+    (cond (leb to from)
+    false
+    (cond (leb (to - from) (k / 8))
+    false
+    (eqb ((getD s (from + k / 8) 0 / (2 ^ (7 - k % 8))) % 2) 1)))

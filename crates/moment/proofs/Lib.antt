@@ -1,0 +1,13 @@
+pub mod Counts
+pub mod RealDates
+pub mod Contents
+pub mod Order
+pub mod Text
+pub mod Years
+pub mod Fronts
+pub mod Values
+pub mod Sound
+pub mod Complete
+pub mod Refusals
+pub mod Unique
+pub mod Examples

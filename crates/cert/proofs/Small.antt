@@ -1,0 +1,212 @@
+-- The small values of a certificate that are opened, and their encodings, both ways: BIT STRING without unused bits, the version,
+-- and the criticality of an extension. Assumes nothing.
+use Prim.Native.Nat.{ℕ, suc, _+_, _-_, _≤_, _<_}
+use mathlib.Core.Path.{_≡_, refl, sym, ap, _∙_}
+use mathlib.Core.List.{List, [], _∷_, _++_}
+use mathlib.Core.Bool.{Bool, true, false}
+use mathlib.Core.Logic.{inr, ⊎-elim}
+use lib.ListN.{length, getD}
+use lib.Dec.{lit<, lit≤}
+use native.Mathlib.Omega.{arith}
+use Rattle.refusal.specs.Refusals.{unsupportedCertVersion, badDer}
+use Rattle.der.specs.declared.Span.{Span}
+use Rattle.der.specs.declared.Got.the-variants.{Content}
+use Rattle.der.specs.declared.small.Small.the-variants.{Number}
+use Rattle.der.specs.declared.small.Truth.the-variants.{Is as Said}
+use Rattle.der.specs.Places.{Bytes, part}
+use Rattle.der.specs.X690.{encoding, lengthBytes, truth, Natural, valueOf}
+use Rattle.der.specs.Model.{LIMIT, expectAt, onContent, bitsAt, positiveIn, nonnegative, smallIn, readSmall, readBool}
+use Rattle.der.proofs.Laws.{tests}
+use Rattle.der.proofs.Parts.{part-length, part-cons, part-none, part-front}
+use Rattle.der.proofs.SmallValues.{There, true-is, false-is, is-bool, absent-bool, natural-one, small-is}
+use Rattle.der.proofs.BitStrings.{bits-is, is-bits}
+use Rattle.cert.specs.Model.{versionAt}
+use Rattle.cert.specs.Rfc5280.{bitString, boolean, integer, explicit, version, octetString, Criticality, unwritten, written, isCritical, criticality}
+use Rattle.cert.specs.Layout.{placeOf, bitsOf}
+use Rattle.cert.proofs.Cases.{version-case}
+use Rattle.cert.proofs.Inversion.{version-inv}
+use Rattle.cert.proofs.Value.{encoded-length, span-is, here, Found, find, find-last, place-start}
+
+-- the part of one byte or more that begins with a byte
+pub part-first : (s : List ℕ) (a b : ℕ) (x : ℕ) (xs : List ℕ) → a ≤ b → b ≤ length s → part s a b ≡ x ∷ xs → (a < b) × (getD s a 0 ≡ x) × (part s (a + 1) b ≡ xs)
+part-first s a b x xs h l e =
+    let n : b - a ≡ suc (length xs) = sym (part-length s a b l) ∙ ap length e in
+    let q : getD s a 0 ∷ part s (a + 1) b ≡ x ∷ xs = sym (part-cons s a b (omega arith) (omega arith)) ∙ e in
+    (omega arith, cc, cc)
+
+-- ---- BIT STRING
+octets-at : (s : List ℕ) (from : ℕ) (p : Span) (octets : List ℕ) → p .start ≤ p .end → p .end ≤ length s → part s from (p .end) ≡ encoding 3 (0 ∷ octets) → part s (p .start) (p .end) ≡ octets
+    → (p ≡ bitsOf from octets) × (from < p .start)
+unfolding placeOf
+octets-at s from p octets h l e f =
+    let n : length (encoding 3 (0 ∷ octets)) ≡ p .end - from = sym (ap length e) ∙ part-length s from (p .end) l in
+    let m : length octets ≡ p .end - p .start = sym (ap length f) ∙ part-length s (p .start) (p .end) l in
+    let k = encoded-length 3 (0 ∷ octets) in
+    (span-is p _ _ (omega arith) (omega arith), omega arith)
+
+-- what was read as bits: its octets, and the encoding
+pub record BitsHere (s : List ℕ) (from to : ℕ) (p : Span) : Type 0 where
+  pub within : to ≤ length s
+  pub after : from < p .start
+  pub ordered : p .start ≤ p .end
+  pub inside : p .end ≤ to
+  pub place : p ≡ bitsOf from (part s (p .start) (p .end))
+  pub bytes : part s from (p .end) ≡ bitString (part s (p .start) (p .end))
+
+pub bits-here : (s : List ℕ) → Bytes s → (from to : ℕ) (p : Span) → bitsAt s from to ≡ Content p → BitsHere s from to p
+unfolding bitString
+bits-here s b from to p e =
+    let i = bits-is s b from to p e in
+    let t = i .1 in
+    let l = t .inside in
+    let o = octets-at s from p (part s (p .start) (p .end)) (i .0) (omega (arith, t .within)) (t .bytes) refl in
+    record {
+      within = t .within;
+      after = o .1;
+      ordered = i .0;
+      inside = t .inside;
+      place = o .0;
+      bytes = t .bytes;
+    }
+
+pub bits-short : (s : List ℕ) (from to : ℕ) (octets : List ℕ) → to - from < LIMIT → to ≤ length s → part s from to ≡ bitString octets → length (0 ∷ octets) < LIMIT
+unfolding bitString
+bits-short s from to octets small l e =
+    let n : length (encoding 3 (0 ∷ octets)) ≡ to - from = sym (ap length e) ∙ part-length s from to l in
+    omega (arith, encoded-length 3 (0 ∷ octets))
+
+pub bits-found : (s : List ℕ) (from to : ℕ) (octets : List ℕ) → length (0 ∷ octets) < LIMIT → to ≤ length s → part s from to ≡ bitString octets
+    → (bitsAt s from to ≡ Content (bitsOf from octets)) × (bitsOf from octets .end ≡ to)
+unfolding bitString
+bits-found s from to octets short l e =
+    let r = is-bits s from to to octets (record { within = l; inside = omega arith; bytes = e }) short in
+    let p = r .0 in
+    let o = octets-at s from p octets (r .3) (omega (arith, r .2)) (rw (r .2) e) (r .4) in
+    (r .1 ∙ ap Content (o .0), sym (ap (λ (q : Span). q .end) (o .0)) ∙ r .2)
+
+-- ---- the version: an INTEGER that is 2
+two-natural : Natural 2 (2 ∷ [])
+unfolding valueOf
+two-natural =
+    record {
+      some = lit≤ tt;
+      positive = lit< tt;
+      value = refl;
+      shortest = λ h _. omega arith;
+    }
+
+two-here : (s : List ℕ) → Bytes s → (from to next : ℕ) → readSmall s from to ≡ Number 2 next → part s from next ≡ encoding 2 (2 ∷ [])
+two-here s b from to next e =
+    let i = small-is s b from to 2 next e in
+    i .1 .2 .bytes ∙ ap (encoding 2) (natural-one 2 (i .1 .0) (2 ∷ []) (lit< tt) (i .1 .1) two-natural)
+
+two-case : (s : List ℕ) (from to : ℕ) (q : Span) → expectAt s from to 2 badDer ≡ Content q → q .end ≤ length s → q .start + 1 ≡ q .end → getD s (q .start) 0 ≡ 2
+    → readSmall s from to ≡ Number 2 (q .end)
+unfolding readSmall nonnegative positiveIn smallIn onContent
+two-case s from to q e l h z =
+    let i : q .start < q .end = omega arith in
+    let j : q .end - q .start ≡ 1 = omega arith in
+    search (tests, e, z, j)
+
+two-found : (s : List ℕ) (from to : ℕ) → from ≤ to → to ≤ length s → part s from to ≡ integer (2 ∷ []) → readSmall s from to ≡ Number 2 to
+unfolding integer
+two-found s from to h l e =
+    let f = find-last s from to 2 (2 ∷ []) refl (lit< tt) h l e in
+    let q = placeOf from (2 ∷ []) in
+    let t = part-first s (q .start) (q .end) 2 [] (f .0 .ordered) (omega (arith, f .0 .inside)) (f .0 .content) in
+    let n = place-start from (2 ∷ []) in
+    two-case s from to q (f .0 .found badDer) (omega (arith, f .0 .inside)) (n .1) (t .1) ∙ ap (λ (x : ℕ). Number 2 x) (f .1)
+
+-- the version that was read
+pub record VersionHere (s : List ℕ) (from to : ℕ) (p : Span) : Type 0 where
+  pub after : from < p .start
+  pub inside : p .end ≤ to
+  pub ordered : p .start ≤ p .end
+  pub place : p ≡ placeOf from (integer (2 ∷ []))
+  pub bytes : part s from (p .end) ≡ version
+
+pub version-here : (s : List ℕ) → Bytes s → (from to : ℕ) (p : Span) → versionAt s from to ≡ Content p → VersionHere s from to p
+unfolding version explicit integer
+version-here s b from to p e =
+    let i = version-inv s from to p e in
+    let h = here s b from to 160 unsupportedCertVersion p (i .field) in
+    let c : part s (p .start) (p .end) ≡ encoding 2 (2 ∷ []) = sym (ap (λ (n : ℕ). part s (p .start) n) (i .all)) ∙ two-here s b (p .start) (p .end) (i .next) (i .number) in
+    record {
+      after = h .after;
+      inside = h .inside;
+      ordered = h .ordered;
+      place = rw c at (h .place);
+      bytes = rw c at (h .bytes);
+    }
+
+two-short : length (integer (2 ∷ [])) < LIMIT
+unfolding integer encoding lengthBytes
+two-short = lit< tt
+
+version-of : (s : List ℕ) (from to : ℕ) (rest : List ℕ) → to ≤ length s → Found s from to 160 (integer (2 ∷ [])) rest → versionAt s from to ≡ Content (placeOf from (integer (2 ∷ [])))
+version-of s from to rest l f =
+    let p = placeOf from (integer (2 ∷ [])) in
+    let g = two-found s (p .start) (p .end) (f .ordered) (omega (arith, f .inside)) (f .content) in
+    version-case s from to (f .found unsupportedCertVersion) g refl
+
+pub version-found : (s : List ℕ) (from to : ℕ) (rest : List ℕ) → from ≤ to → to ≤ length s → part s from to ≡ version ++ rest
+    → (versionAt s from to ≡ Content (placeOf from (integer (2 ∷ [])))) × Found s from to 160 (integer (2 ∷ [])) rest
+unfolding version explicit
+version-found s from to rest h l e =
+    let f = find s from to 160 (integer (2 ∷ [])) rest refl two-short h l e in
+    (version-of s from to rest l f, f)
+
+-- ---- criticality
+-- what was read as a criticality, and how it is written
+pub record CriticalHere (s : List ℕ) (from : ℕ) (b : Bool) (next : ℕ) : Type 0 where
+  pub form : Criticality
+  pub is : b ≡ isCritical form
+  pub ordered : from ≤ next
+  pub length-is : next ≡ from + length (criticality form)
+  pub bytes : part s from next ≡ criticality form
+
+not-written : (s : List ℕ) (from next : ℕ) → next ≡ from → CriticalHere s from false next
+unfolding criticality isCritical
+not-written s from next n =
+    record {
+      form = unwritten;
+      is = refl;
+      ordered = omega arith;
+      length-is = omega arith;
+      bytes = rw n (part-none s from);
+    }
+
+one-written : (s : List ℕ) (from to : ℕ) (b : Bool) (next : ℕ) → There s from to next (encoding 1 (truth b)) → CriticalHere s from b next
+unfolding criticality isCritical boolean
+one-written s from to b next t =
+    let n : length (encoding 1 (truth b)) ≡ next - from = sym (ap length (t .bytes)) ∙ part-length s from next (omega (arith, t .inside, t .within)) in
+    let k = encoded-length 1 (truth b) in
+    record {
+      form = written b;
+      is = refl;
+      ordered = omega arith;
+      length-is = omega arith;
+      bytes = t .bytes;
+    }
+
+pub critical-here : (s : List ℕ) → Bytes s → (from to : ℕ) (b : Bool) (next : ℕ) → readBool s from to ≡ Said b next → CriticalHere s from b next
+critical-here s w from to true next e = one-written s from to true next (true-is s w from to next e)
+critical-here s w from to false next e =
+    ⊎-elim (λ h. not-written s from next (h .0)) (λ t. one-written s from to false next t) (false-is s w from to next e)
+
+written-found : (s : List ℕ) (from to : ℕ) (b : Bool) (rest : List ℕ) → from ≤ to → to ≤ length s → part s from to ≡ boolean b ++ rest
+    → (readBool s from to ≡ Said b (from + length (boolean b))) × (from + length (boolean b) ≤ to) × (part s (from + length (boolean b)) to ≡ rest)
+unfolding boolean
+written-found s from to b rest h l e =
+    let f = part-front s from to (encoding 1 (truth b)) rest h l e in
+    (is-bool s from to (from + length (encoding 1 (truth b))) b (record { within = l; inside = f .0; bytes = f .1 }), f .0, f .2)
+
+-- a criticality before a value is read back
+pub critical-found : (s : List ℕ) (from to : ℕ) (form : Criticality) (value : List ℕ) → from ≤ to → to ≤ length s → part s from to ≡ criticality form ++ octetString value
+    → (readBool s from to ≡ Said (isCritical form) (from + length (criticality form))) × (from + length (criticality form) ≤ to) × (part s (from + length (criticality form)) to ≡ octetString value)
+unfolding criticality isCritical octetString encoding
+critical-found s from to unwritten value h l e =
+    let t = part-first s from to 4 _ h l e in
+    let n : from + 0 ≡ from = omega arith in
+    (absent-bool s from to l (inr (λ o. omega (arith, t .1))) ∙ ap (λ (x : ℕ). Said false x) (sym n), omega arith, rw n e)
+critical-found s from to (written b) value h l e = written-found s from to b (octetString value) h l e

@@ -1,0 +1,115 @@
+use borrow.Author.Tests.{ne-eqb}
+use Rattle.cert.proofs.Cases.{taken-case}
+use mathlib.Core.Path.{sym, _∙_}
+use Rattle.der.specs.Model.{onContent}
+use Rattle.cert.specs.Model.{taken, onParsed, onKept}
+use borrow.Author.Needs.{needs}
+use Rattle.cert.proofs.extensions.take_one.Statement.{statement}
+use Rattle.cert.proofs.extensions.take_one.Tie as tie
+
+expect-requires : tie.Need-expect-requires
+expect-requires c κs = search needs
+
+enum-known-p : tie.Need-enum-known-p
+enum-known-p c = search needs
+
+enum-known-e : tie.Need-enum-known-e
+enum-known-e c = search needs
+
+returns : tie.Need-returns
+unfolding taken onParsed onKept onContent
+returns c =
+    let arm = c .before in
+    simp (← arm .before .before .expect .ensures, arm .e .given .1)
+
+extension-in-requires : tie.Need-extension-in-requires
+extension-in-requires c κs = search needs
+
+enum-known-x : tie.Need-enum-known-x
+enum-known-x c = search needs
+
+enum-known-e-2 : tie.Need-enum-known-e-2
+enum-known-e-2 c = search needs
+
+returns-2 : tie.Need-returns-2
+unfolding taken onParsed onKept onContent
+returns-2 c =
+    let second = c .before in
+    let first = second .before .before .before .before in
+    simp (
+      ← first .before .before .expect .ensures,
+      first .p .given .1,
+      ← second .before .before .extension-in .ensures,
+      second .e2 .given .1,
+    )
+
+remember-requires : tie.Need-remember-requires
+remember-requires c κs = search needs
+
+enum-known-k : tie.Need-enum-known-k
+enum-known-k c = search needs
+
+enum-known-e-3 : tie.Need-enum-known-e-3
+enum-known-e-3 c = search needs
+
+returns-3 : tie.Need-returns-3
+unfolding taken onParsed onKept onContent
+returns-3 c =
+    let third = c .before in
+    let second = third .before .before .before .before in
+    let first = second .before .before .before .before in
+    simp (
+      ← first .before .before .expect .ensures,
+      first .p .given .1,
+      ← second .before .before .extension-in .ensures,
+      second .x .given .1,
+      ← third .before .before .remember .ensures,
+      third .e3 .given .1,
+    )
+
+returns-4 : tie.Need-returns-4
+returns-4 c =
+    let third = c .before .before .before .before .before in
+    let second = third .before .before .before .before in
+    let first = second .before .before .before .before in
+    sym
+    (taken-case _ _ _ _ _
+    (sym (first .before .before .expect .ensures) ∙ first .p .given .1)
+    (sym (second .before .before .extension-in .ensures) ∙ second .x .given .1)
+    (sym (third .before .before .remember .ensures) ∙ third .k .given .1)
+    (c .if1 .taken))
+
+returns-5 : tie.Need-returns-5
+unfolding taken onParsed onKept onContent
+returns-5 c =
+    let third = c .before .before .before .before .before in
+    let second = third .before .before .before .before in
+    let first = second .before .before .before .before in
+    simp (
+      ← first .before .before .expect .ensures,
+      first .p .given .1,
+      ← second .before .before .extension-in .ensures,
+      second .x .given .1,
+      ← third .before .before .remember .ensures,
+      third .k .given .1,
+      ne-eqb _ _ (c .if1 .left),
+    )
+
+pub take-one-spec : {M : Type 1} → statement M
+take-one-spec =
+    tie.close
+    (tie.spec
+    expect-requires
+    enum-known-p
+    enum-known-e
+    returns
+    extension-in-requires
+    enum-known-x
+    enum-known-e-2
+    returns-2
+    remember-requires
+    enum-known-k
+    enum-known-e-3
+    returns-3
+    returns-4
+    returns-5)

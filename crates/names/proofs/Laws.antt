@@ -1,0 +1,219 @@
+-- Laws of the definitions of `specs/Model.antt` that the functions' proofs cite: each exit and each turn of a loop. Assumes nothing.
+use Prim.Native.Nat.{ℕ, suc, _+_, _-_, _*_, _≤_, _<_}
+use mathlib.Core.Path.{_≡_, refl, ap}
+use mathlib.Core.List.{List, [], _∷_}
+use mathlib.Core.Bool.{Bool, true, false, cond, not}
+use mathlib.Core.Logic.{_⊎_, inl, inr, ⊎-elim}
+use lib.ListN.{length, getD, take, drop, length-drop, drop-of-length-le}
+use lib.Seq.{take-all, drop-cons}
+use lib.Dec.{eqb}
+use native.Mathlib.Omega.{arith}
+use native.Mathlib.Numerals.{add-one}
+use borrow.Author.Tests.{eq-eqb, ne-eqb, eqb-true, not-false}
+use Rattle.names.specs.declared.dns.Label.{Label}
+use Rattle.names.specs.declared.dns.Taken.the-variants.{Next, Bad}
+use Rattle.names.specs.declared.Answer.the-variants.{Yes, No, Refused}
+use Rattle.names.specs.declared.ip.Masked.the-variants.{Same, Differs, Broken}
+use Rattle.names.specs.declared.general.Name.{Name}
+use Rattle.names.specs.declared.general.Name.the-variants.{Found, Refused as NoName}
+use Rattle.names.specs.declared.general.Tried.{Tried}
+use Rattle.names.specs.declared.general.Tried.the-variants.{Good as Hit, Next as On, Refused as Broke}
+use Rattle.names.specs.declared.general.Verdict.{Verdict}
+use Rattle.names.specs.declared.general.Verdict.the-variants.{Good, Refused as NotGood}
+use Rattle.refusal.specs.Refusals.{invalidNetworkMaskConstraint}
+use Rattle.der.specs.declared.Read.{Read}
+use Rattle.der.specs.declared.Read.the-variants.{Value, Refused as NoValue}
+use Rattle.der.specs.Model.{readValue}
+use Rattle.der.proofs.Invert.{either}
+use Rattle.der.proofs.Theorems.{value-places}
+use Rattle.names.specs.Names.{small}
+use Rattle.names.specs.Model.{begins, sameText, fromDot, takeByte, onTaken, hostFrom, whole, neither, matchSubnet, maskedByte, onMasked, subnetFrom, isKind, ofKind, generalName, isWanted, onFound, tryName, onTried}
+
+-- ---- no two answers are one
+pub yes-no : Yes ≡ No → ⊥
+yes-no h = let z : _≡_ {A = ℕ} 0 1 = cc in omega arith
+
+pub yes-refused : {e : ℕ} → Yes ≡ Refused e → ⊥
+yes-refused h = let z : _≡_ {A = ℕ} 0 1 = cc in omega arith
+
+pub no-refused : {e : ℕ} → No ≡ Refused e → ⊥
+no-refused h = let z : _≡_ {A = ℕ} 0 1 = cc in omega arith
+
+-- ---- parts of a text
+pub rest-all : (h : List ℕ) (i : ℕ) → take (length h - i) (drop i h) ≡ drop i h
+rest-all h i = take-all (length h - i) (drop i h) (simp length-drop (omega arith))
+
+pub begins-none : (h : List ℕ) (b : ℕ) → length h ≡ 0 → begins h b ≡ false
+unfolding begins
+begins-none [] b e = refl
+begins-none (x ∷ xs) b e = absurd (omega arith)
+
+pub begins-some : (h : List ℕ) (b : ℕ) → (length h ≡ 0 → ⊥) → begins h b ≡ eqb (getD h 0 0) b
+unfolding begins
+begins-some [] b e = absurd (e refl)
+begins-some (x ∷ xs) b e = refl
+
+pub rest-none : (h : List ℕ) → length h ≡ 0 → h ≡ drop 1 h
+rest-none [] e = refl
+rest-none (x ∷ xs) e = absurd (omega arith)
+
+-- a place of a text: the byte there and what is after it
+at-place : (h : List ℕ) (i : ℕ) → i < length h → drop i h ≡ getD h i 0 ∷ drop (i + 1) h
+at-place h i l = rw (add-one, drop-cons h i 0)
+
+past-end : (h : List ℕ) (i : ℕ) → length h ≤ i → drop i h ≡ []
+past-end h i l = drop-of-length-le h l
+
+-- ---- two texts compared
+pub same-length : (xs ys : List ℕ) → (length xs ≡ length ys → ⊥) → sameText xs ys ≡ false
+unfolding sameText
+same-length [] [] h = absurd (h refl)
+same-length [] (y ∷ ys) h = refl
+same-length (x ∷ xs) [] h = refl
+same-length (x ∷ xs) (y ∷ ys) h = go (eqb (small x) (small y)) (same-length xs ys (λ q. h (ap suc q)))
+  where
+    go : (b : Bool) → sameText xs ys ≡ false → cond b (sameText xs ys) false ≡ false
+    go true r = r
+    go false r = refl
+
+module _ (x y : List ℕ) (i : ℕ) (h : i < length x) (k : i < length y) where
+  pub same-turn : small (getD x i 0) ≡ small (getD y i 0) → sameText (drop (i + 1) x) (drop (i + 1) y) ≡ sameText (drop i x) (drop i y)
+  unfolding sameText
+  same-turn e = rw (at-place x i h, at-place y i k, eq-eqb _ _ e)
+
+  pub same-differ : (small (getD x i 0) ≡ small (getD y i 0) → ⊥) → sameText (drop i x) (drop i y) ≡ false
+  unfolding sameText
+  same-differ e = rw (at-place x i h, at-place y i k, ne-eqb _ _ e)
+
+pub same-end : (x y : List ℕ) (i : ℕ) → length x ≤ i → length y ≤ i → sameText (drop i x) (drop i y) ≡ true
+unfolding sameText
+same-end x y i h k = rw (past-end x i h, past-end y i k)
+
+-- ---- the first dot
+pub dot-turn : (h : List ℕ) (i : ℕ) → i < length h → (getD h i 0 ≡ 46 → ⊥) → fromDot (drop (i + 1) h) ≡ fromDot (drop i h)
+unfolding fromDot
+dot-turn h i l n = rw (at-place h i l, ne-eqb _ _ n)
+
+pub dot-here : (h : List ℕ) (i : ℕ) → i < length h → getD h i 0 ≡ 46 → drop i h ≡ fromDot (drop i h)
+unfolding fromDot
+dot-here h i l e = rw (at-place h i l, eq-eqb _ _ e)
+
+pub dot-end : (h : List ℕ) (i : ℕ) → length h ≤ i → drop i h ≡ fromDot (drop i h)
+unfolding fromDot
+dot-end h i l = rw (past-end h i l)
+
+-- ---- a text byte by byte
+pub host-turn : (h : List ℕ) (i : ℕ) (l l′ : Label) → i < length h → takeByte l (getD h i 0) ≡ Next l′ → hostFrom (drop (i + 1) h) l′ ≡ hostFrom (drop i h) l
+unfolding hostFrom onTaken
+host-turn h i l l′ k e = rw (at-place h i k, e)
+
+pub host-bad : (h : List ℕ) (i : ℕ) (l : Label) → i < length h → takeByte l (getD h i 0) ≡ Bad → hostFrom (drop i h) l ≡ false
+unfolding hostFrom onTaken
+host-bad h i l k e = rw (at-place h i k, e)
+
+pub host-end : (h : List ℕ) (i : ℕ) (l : Label) → length h ≤ i → hostFrom (drop i h) l ≡ cond (l .digits) false (whole l)
+unfolding hostFrom
+host-end h i l k = rw (past-end h i k)
+
+-- ---- an address in a subnet
+pub neither-false : (n a b : ℕ) → neither n a b ≡ false → (n ≡ a) ⊎ (n ≡ b)
+unfolding neither
+neither-false n a b e =
+    ⊎-elim (λ p. inl (eqb-true n a (p .0))) (λ p. inr (eqb-true n b (not-false _ (p .1)))) (either (eqb n a) e)
+
+pub either-size : (n a b : ℕ) → (n ≡ a) ⊎ (n ≡ b) → neither n a b ≡ false
+unfolding neither
+either-size n a b (inl e) = rw (eq-eqb n a e)
+either-size n a b (inr e) = go (eqb n a)
+  where
+    go : (t : Bool) → cond t false (not (eqb n b)) ≡ false
+    go true = refl
+    go false = rw (eq-eqb n b e)
+
+-- the two parts of a subnet, as they are cut out of it
+pub subnet-parts : (p q : List ℕ) → neither (length p) 4 16 ≡ false → neither (length q) 8 32 ≡ false → length q ≡ length p * 2
+    → matchSubnet p q ≡ subnetFrom true p (take (length p - 0) q) (take (length q - length p) (drop (length p) q))
+unfolding matchSubnet
+subnet-parts p q h k e =
+    let z : length p - 0 ≡ length p = omega arith in
+    rw (h, k, eq-eqb _ _ e, z, rest-all q (length p))
+
+module _ (full : Bool) (p a ms : List ℕ) (i : ℕ) (h : i < length p) (k : i < length a) (l : i < length ms) where
+  pub subnet-turn : maskedByte full (getD ms i 0) (getD p i 0) (getD a i 0) ≡ Same
+      → subnetFrom (eqb (getD ms i 0) 255) (drop (i + 1) p) (drop (i + 1) a) (drop (i + 1) ms) ≡ subnetFrom full (drop i p) (drop i a) (drop i ms)
+  unfolding subnetFrom onMasked
+  subnet-turn e = rw (at-place p i h, at-place a i k, at-place ms i l, e)
+
+  pub subnet-differs : maskedByte full (getD ms i 0) (getD p i 0) (getD a i 0) ≡ Differs → subnetFrom full (drop i p) (drop i a) (drop i ms) ≡ No
+  unfolding subnetFrom onMasked
+  subnet-differs e = rw (at-place p i h, at-place a i k, at-place ms i l, e)
+
+  pub subnet-broken : maskedByte full (getD ms i 0) (getD p i 0) (getD a i 0) ≡ Broken
+      → subnetFrom full (drop i p) (drop i a) (drop i ms) ≡ Refused invalidNetworkMaskConstraint
+  unfolding subnetFrom onMasked
+  subnet-broken e = rw (at-place p i h, at-place a i k, at-place ms i l, e)
+
+pub subnet-end : (full : Bool) (p a ms : List ℕ) (i : ℕ) → length p ≤ i → subnetFrom full (drop i p) (drop i a) (drop i ms) ≡ Yes
+unfolding subnetFrom
+subnet-end full p a ms i h = rw (past-end p i h)
+
+-- ---- general names
+-- a general name is a value of one of the kinds
+pub record NameAt (s : List ℕ) (from to kind start end : ℕ) : Type 0 where
+  pub value : readValue s from to ≡ Value kind start end
+  pub known : isKind kind ≡ true
+
+no-name : {e k a b : ℕ} → NoName e ≡ Found k a b → ⊥
+no-name h = let z : _≡_ {A = ℕ} 0 1 = cc in omega arith
+
+of-kind : (s : List ℕ) (from to kind start end : ℕ) (r : Read) → readValue s from to ≡ r → ofKind r ≡ Found kind start end → NameAt s from to kind start end
+unfolding ofKind
+of-kind s from to kind start end (Value t a b) h e =
+    ⊎-elim
+    (λ p.
+    let i : t ≡ kind = cc (p .1) in
+    let j : a ≡ start = cc (p .1) in
+    let k : b ≡ end = cc (p .1) in
+    record { value = rw (h, i, j, k); known = rw i at (p .0) })
+    (λ p. absurd (no-name (p .1)))
+    (either (isKind t) e)
+of-kind s from to kind start end NoValue h e = absurd (no-name e)
+
+pub name-at : (s : List ℕ) (from to kind start end : ℕ) → generalName s from to ≡ Found kind start end → NameAt s from to kind start end
+unfolding generalName
+name-at s from to kind start end e = of-kind s from to kind start end (readValue s from to) refl e
+
+pub name-within : (s : List ℕ) (from to kind start end : ℕ) → generalName s from to ≡ Found kind start end
+    → (from < end) × (start ≤ end) × (end ≤ to) × (end ≤ length s)
+name-within s from to kind start end e =
+    let p = value-places s from to kind start end (name-at s from to kind start end e .value) in
+    omega arith
+
+-- a name that was passed over ends later
+hit-on : {a : ℕ} → Hit ≡ On a → ⊥
+hit-on h = let z : _≡_ {A = ℕ} 0 1 = cc in omega arith
+
+found-later : (s : List ℕ) (at to sought : ℕ) (wanted : List ℕ) (next : ℕ) (n : Name) → generalName s at to ≡ n → onFound s sought wanted n ≡ On next → at < next
+unfolding onFound
+found-later s at to sought wanted next (Found kind start end) h e =
+    ⊎-elim
+    (λ p. absurd (hit-on (p .1)))
+    (λ p. let k : end ≡ next = cc (p .1) in let w = name-within s at to kind start end h in omega arith)
+    (either (isWanted s kind start end sought wanted) e)
+found-later s at to sought wanted next (NoName r) h e = absurd (let z : _≡_ {A = ℕ} 0 1 = cc in omega arith)
+
+pub try-later : (s : List ℕ) (at to sought : ℕ) (wanted : List ℕ) (next : ℕ) → tryName s at to sought wanted ≡ On next → at < next
+unfolding tryName
+try-later s at to sought wanted next e = found-later s at to sought wanted next (generalName s at to) refl e
+
+pub go-on : {x : Tried} {a : ℕ} → x ≡ On a → (k : ℕ → Unit {0} → Verdict) → onTried x k ≡ k a tt
+unfolding onTried
+go-on e k = rw e
+
+pub go-hit : {x : Tried} → x ≡ Hit → (k : ℕ → Unit {0} → Verdict) → onTried x k ≡ Good
+unfolding onTried
+go-hit e k = rw e
+
+pub go-broke : {x : Tried} {e : ℕ} → x ≡ Broke e → (k : ℕ → Unit {0} → Verdict) → onTried x k ≡ NotGood e
+unfolding onTried
+go-broke h k = rw h

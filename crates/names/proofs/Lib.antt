@@ -1,0 +1,10 @@
+pub mod Laws
+pub mod Labels
+pub mod Valid
+pub mod Texts
+pub mod Subtree
+pub mod Match
+pub mod Rows
+pub mod Wanted
+pub mod Bits
+pub mod Subnet

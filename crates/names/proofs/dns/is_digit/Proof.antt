@@ -1,0 +1,16 @@
+-- `names::dns::is_digit` meets its contract. Assumes nothing.
+use Rattle.names.specs.Names.{digit}
+use Rattle.der.proofs.Laws.{tests}
+use Rattle.names.proofs.dns.is_digit.Statement.{statement}
+use Rattle.names.proofs.dns.is_digit.Tie as tie
+
+returns : tie.Need-returns
+unfolding digit
+returns c = search tests
+
+returns-2 : tie.Need-returns-2
+unfolding digit
+returns-2 c = search tests
+
+pub is-digit-spec : {M : Type 1} → statement M
+is-digit-spec = tie.close (tie.spec returns returns-2)

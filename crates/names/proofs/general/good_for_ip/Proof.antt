@@ -1,0 +1,15 @@
+-- `names::general::good_for_ip` meets its contract. Assumes nothing.
+use Rattle.names.specs.Model.{goodForIp}
+use borrow.Author.Needs.{needs}
+use Rattle.names.proofs.general.good_for_ip.Statement.{statement}
+use Rattle.names.proofs.general.good_for_ip.Tie as tie
+
+good-for-requires : tie.Need-good-for-requires
+good-for-requires c κs = search needs
+
+returns : tie.Need-returns
+unfolding goodForIp
+returns c = search (c .good-for .ensures)
+
+pub good-for-ip-spec : {M : Type 1} → statement M
+good-for-ip-spec = tie.close (tie.spec good-for-requires returns)

@@ -1,0 +1,419 @@
+-- NEVER WEAKER, and COST: no refusal says that the path meets the name constraints of RFC 5280, at just so many comparisons. Assumes nothing.
+use Prim.Native.Nat.{ℕ, zero, suc, _+_, _-_, _*_, _≤_}
+use mathlib.Core.Path.{_≡_, refl, sym, ap, _∙_}
+use mathlib.Core.List.{List, [], _∷_, _++_}
+use mathlib.Core.Bool.{Bool, true, false, cond}
+use mathlib.Core.Logic.{inl, inr, ⊎-elim}
+use lib.ListN.{length, getD, length-append}
+use lib.Seq.{take-all}
+use lib.Dec.{ltb, leb, eqb}
+use native.Mathlib.Nat.{add-mul}
+use native.Mathlib.Omega.{arith}
+use borrow.Author.Tests.{ltb-false, eqb-true}
+use Rattle.refusal.specs.Refusals.{badDer}
+use Rattle.der.specs.declared.Span.{Span}
+use Rattle.der.specs.declared.Got.the-variants.{Content, Refused as NoContent}
+use Rattle.der.specs.X690.{encoding}
+use Rattle.der.specs.Model.{expectAt}
+use Rattle.der.specs.Places.{Bytes, part}
+use Rattle.der.specs.Loop.{run, walk}
+use Rattle.der.proofs.Laid.{expect-laid}
+use Rattle.der.proofs.Parts.{part-split}
+use Rattle.der.proofs.Invert.{peel, either}
+use Rattle.cert.specs.declared.Certificate.{Certificate}
+use Rattle.cert.specs.declared.Reading.{Reading}
+use Rattle.cert.specs.declared.Reading.the-variants.{Accepted, Refused as NotRead}
+use Rattle.cert.specs.Model.{readCertificate}
+use Rattle.cert.proofs.Inversion.{on-content}
+use Rattle.names.specs.declared.Answer.the-variants.{Yes, No}
+use Rattle.names.specs.declared.general.Name.{Name}
+use Rattle.names.specs.declared.general.Name.the-variants.{Found, Refused as NoName}
+use Rattle.names.specs.General.{General, Named, encoded, Each}
+use Rattle.names.specs.Model.{generalName}
+use Rattle.names.proofs.Rows.{named-at}
+use Rattle.constraints.specs.declared.Subtrees.{Subtrees}
+use Rattle.constraints.specs.declared.Lists.{Lists}
+use Rattle.constraints.specs.declared.Lists.the-variants.{Are, Refused as NoLists}
+use Rattle.constraints.specs.Rfc5280Names.{directoryName, subtrees, Field, absent, present, Others, In, Some, OfKind, Conforms}
+use Rattle.constraints.specs.Conform.{EachBytes, Presents, Presented, none, more, Met, OwnMet, IssuersMet, last, more as also, PathMet}
+use Rattle.constraints.specs.Tally.{Tally, tally, clean, after}
+use Rattle.constraints.specs.Model.{onName, compared, listAt, subtreesAt, name, nextName, alternatives, certificate, below, constraints, own, anchored, issuers, pathConstraints, cost, named}
+use Rattle.constraints.proofs.Refusals.{Called, Listed, name-called, lists-listed}
+use Rattle.constraints.proofs.EachKind.{permitted-in, excluded-out, formed-yes, formed-no}
+use Rattle.constraints.proofs.Accepted.{BothPass, both-pass, part-empty, bytes-part, bases, entries-pass, gone-hit, gone-out}
+use Rattle.constraints.proofs.Turns.{certificate-is, certificate-unread, constraints-are, constraints-none, own-bound, own-free, own-unread}
+
+-- ---- lists of names
+some-map : (P Q R : General → Type 0) (es : List General) → ((e : General) → P e → R e → Q e) → Some P es → Each R es → Some Q es
+unfolding Some Each
+some-map P Q R [] f h r = h
+some-map P Q R (e ∷ es) f (inl h) r = inl (f e h (r .0))
+some-map P Q R (e ∷ es) f (inr h) r = inr (some-map P Q R es f h (r .1))
+
+whichever : {A : Type 0} (P : General → Type 0) (es : List General) → Some P es → ((e : General) → P e → A) → A
+unfolding Some
+whichever P [] h f = absurd h
+whichever P (e ∷ es) (inl h) f = f e h
+whichever P (e ∷ es) (inr h) f = whichever P es h f
+
+each-map : (P Q R : General → Type 0) (es : List General) → ((e : General) → P e → R e → Q e) → Each P es → Each R es → Each Q es
+unfolding Each
+each-map P Q R [] f h r = tt
+each-map P Q R (e ∷ es) f h r = (f e (h .0) (r .0), each-map P Q R es f (h .1) (r .1))
+
+each-append : (P : General → Type 0) (ns ms : List General) → Each P ns → Each P ms → Each P (ns ++ ms)
+unfolding Each
+each-append P [] ms h k = k
+each-append P (n ∷ ns) ms h k = (h .0, each-append P ns ms (h .1) k)
+
+-- so many names more
+more-names : (ns ms : List General) (k a b : ℕ) → a ≡ length ns * k → b ≡ length ms * k → a + b ≡ length (ns ++ ms) * k
+more-names ns ms k a b e f =
+    let l : length (ns ++ ms) ≡ length ns + length ms = length-append ns ms in
+    rw (l, e, f) (sym (add-mul (length ns) (length ms) k))
+
+-- ---- the general names between two places, as far as they can be read
+unfoldable generals : ℕ → List ℕ → ℕ → ℕ → List General
+generals zero t at to = []
+generals (suc fuel) t at to =
+    cond (ltb at to) (onName (generalName t at to) (λ e. []) (λ kind a b. record { kind = kind; content = part t a b } ∷ generals fuel t b to)) []
+
+module _ (other : Others) (s : List ℕ) (bytes : Bytes s) (lists : Subtrees) where
+  abbrev permitted : List General
+  permitted = bases (lists .permitted .end - lists .permitted .start) s (lists .permitted .start) (lists .permitted .end)
+
+  abbrev excluded : List General
+  excluded = bases (lists .excluded .end - lists .excluded .start) s (lists .excluded .start) (lists .excluded .end)
+
+  abbrev entryCount : ℕ
+  entryCount = length permitted + length excluded
+
+  -- the lists are encodings
+  record ListsAre : Type 0 where
+    permitted-is : part s (lists .permitted .start) (lists .permitted .end) ≡ subtrees permitted
+    excluded-is : part s (lists .excluded .start) (lists .excluded .end) ≡ subtrees excluded
+    permitted-named : Each Named permitted
+    excluded-named : Each Named excluded
+
+  -- ---- one name
+  record NamePassed (n : General) (taken : ℕ) : Type 0 where
+    lists-are : ListsAre
+    conforms : Conforms other permitted excluded n
+    count : taken ≡ entryCount
+
+  name-passes : (kind : ℕ) (p : List ℕ) → Bytes p → name s lists kind p .refusal ≡ 0 → NamePassed (record { kind = kind; content = p }) (name s lists kind p .taken)
+  unfolding name
+  name-passes kind p bp z =
+      let b = both-pass _ _ z in
+      let l = entries-pass s bytes (lists .permitted .end) false kind p (lists .permitted .start) (b .first) in
+      let r = entries-pass s bytes (lists .excluded .end) true kind p (lists .excluded .start) (b .second) in
+      let n : General = record { kind = kind; content = p } in
+      record {
+        lists-are = record { permitted-is = l .is; excluded-is = r .is; permitted-named = l .named; excluded-named = r .named };
+        conforms =
+            record {
+              within =
+                  λ m means some.
+                  some-map
+                  (λ e. (e .kind ≡ kind) × (compared false kind p (e .content) ≡ Yes))
+                  (λ e. OfKind n e × In other e m)
+                  (λ e. Bytes (e .content))
+                  permitted
+                  (λ e h be. (h .0, permitted-in other n e (h .0) bp be (h .1) m means))
+                  (gone-hit kind p permitted (l .gone) (l .closes) some)
+                  (l .small);
+              without =
+                  λ m means.
+                  each-map
+                  (λ e. e .kind ≡ kind → compared true kind p (e .content) ≡ No)
+                  (λ e. OfKind n e → In other e m → ⊥)
+                  (λ e. Bytes (e .content))
+                  excluded
+                  (λ e h be same. excluded-out other n e same bp be (h same) m means)
+                  (gone-out kind p excluded (r .gone))
+                  (r .small);
+              formed =
+                  λ k some.
+                  ⊎-elim
+                  (λ h. whichever (λ e. (e .kind ≡ kind) × (compared false kind p (e .content) ≡ Yes)) permitted (gone-hit kind p permitted (l .gone) (l .closes) h) (λ e y. formed-yes kind p (e .content) k (y .1)))
+                  (λ h.
+                  whichever
+                  (λ e. compared true kind p (e .content) ≡ No)
+                  excluded
+                  (some-map (λ e. OfKind n e) (λ e. compared true kind p (e .content) ≡ No) (λ e. e .kind ≡ kind → compared true kind p (e .content) ≡ No) excluded (λ e same f. f same) h (gone-out kind p excluded (r .gone)))
+                  (λ e y. formed-no kind p (e .content) k y))
+                  some;
+            };
+        count = b .taken ∙ omega (arith, l .count, r .count);
+      }
+
+  -- ---- the names of one certificate
+  record NamesPassed (t : List ℕ) (at to : ℕ) (ns : List General) (taken : ℕ) : Type 0 where
+    is : part t at to ≡ encoded ns
+    names-named : Each Named ns
+    conform : Each (Conforms other permitted excluded) ns
+    count : taken ≡ length ns * entryCount
+
+  module _ (t : List ℕ) (bt : Bytes t) (to : ℕ) where
+    abbrev named-from : ℕ → ℕ → Tally
+    named-from fuel at = run to (λ a (u : Unit {0}). clean) (λ a u. nextName s lists t (generalName t a to)) fuel at tt
+
+    names-end : (at : ℕ) → to ≤ at → NamesPassed t at to [] 0
+    unfolding encoded Each
+    names-end at h = record { is = part-empty t at to h; names-named = tt; conform = tt; count = omega arith }
+
+    name-more : (at kind start end : ℕ) (ns : List General) (a b : ℕ) → Named (record { kind = kind; content = part t start end }) → part t at to ≡ encoding kind (part t start end) ++ part t end to → NamePassed (record { kind = kind; content = part t start end }) a → NamesPassed t end to ns b
+        → NamesPassed t at to (record { kind = kind; content = part t start end } ∷ ns) (a + b)
+    unfolding encoded Each
+    name-more at kind start end ns a b h q n r =
+        let n₁ : General = record { kind = kind; content = part t start end } in
+        let one : a ≡ length (n₁ ∷ []) * entryCount = omega (arith, n .count) in
+        record {
+          is = q ∙ ap (λ (u : List ℕ). encoding kind (part t start end) ++ u) (r .is);
+          names-named = (h, r .names-named);
+          conform = (n .conforms, r .conform);
+          count = more-names (n₁ ∷ []) ns entryCount a b one (r .count);
+        }
+
+    name-step : (fuel at : ℕ) (g : Name) → generalName t at to ≡ g → to - at ≤ suc fuel → nextName s lists t g (λ a (u : Unit {0}). named-from fuel a) .refusal ≡ 0
+        → ((at′ : ℕ) → to - at′ ≤ fuel → named-from fuel at′ .refusal ≡ 0 → NamesPassed t at′ to (generals fuel t at′ to) (named-from fuel at′ .taken))
+        → NamesPassed t at to (onName g (λ e. []) (λ kind a b. record { kind = kind; content = part t a b } ∷ generals fuel t b to)) (nextName s lists t g (λ a (u : Unit {0}). named-from fuel a) .taken)
+    unfolding nextName onName
+    name-step fuel at (Found kind start end) e h z rec =
+        let b = both-pass _ _ z in
+        let here = named-at t bt at to kind start end e in
+        let one = name-passes kind (part t start end) (bytes-part t start end bt) (b .first) in
+        rw (b .taken) (name-more at kind start end (generals fuel t end to) _ _ (here .0) (here .1 .0) one (rec end (omega (arith, here .1 .1 .0)) (b .second)))
+    name-step fuel at (NoName x) e h z rec =
+        let n : Called (NoName x) = rw e at (name-called t at to) in
+        absurd (n z)
+
+    names-pass : (fuel at : ℕ) → to - at ≤ fuel → named-from fuel at .refusal ≡ 0 → NamesPassed t at to (generals fuel t at to) (named-from fuel at .taken)
+    unfolding run generals
+    names-pass zero at h z = names-end at (omega arith)
+    names-pass (suc fuel) at h z = by-test (ltb at to) refl z (names-pass fuel)
+      where
+        by-test : (b : Bool) → ltb at to ≡ b
+            → cond b (nextName s lists t (generalName t at to) (λ a (u : Unit {0}). named-from fuel a)) clean .refusal ≡ 0
+            → ((at′ : ℕ) → to - at′ ≤ fuel → named-from fuel at′ .refusal ≡ 0 → NamesPassed t at′ to (generals fuel t at′ to) (named-from fuel at′ .taken))
+            → NamesPassed t at to (cond b (onName (generalName t at to) (λ e. []) (λ kind a b. record { kind = kind; content = part t a b } ∷ generals fuel t b to)) [])
+            (cond b (nextName s lists t (generalName t at to) (λ a (u : Unit {0}). named-from fuel a)) clean .taken)
+        by-test true e y rec = name-step fuel at (generalName t at to) refl h y rec
+        by-test false e y rec = names-end at (ltb-false _ _ e)
+
+    alternatives-pass : (from : ℕ) → alternatives s lists t from to .refusal ≡ 0 → NamesPassed t from to (generals (to - from) t from to) (alternatives s lists t from to .taken)
+    unfolding alternatives walk
+    alternatives-pass from z = names-pass (to - from) from (omega arith) z
+
+  -- ---- one certificate
+  record CertPassed (t : List ℕ) (taken : ℕ) : Type 0 where
+    names : List General
+    lists-are : ListsAre
+    presents : Presents t names
+    conform : Each (Conforms other permitted excluded) names
+    count : taken ≡ length names * entryCount
+
+  accepted-passes : (t : List ℕ) → Bytes t → (c : Certificate) → readCertificate t true ≡ Accepted c
+      → after (alternatives s lists t (c .known .«alternative_name» .start) (c .known .«alternative_name» .end)) (name s lists directoryName (part t (c .subject .start) (c .subject .end))) .refusal ≡ 0
+      → CertPassed t (after (alternatives s lists t (c .known .«alternative_name» .start) (c .known .«alternative_name» .end)) (name s lists directoryName (part t (c .subject .start) (c .subject .end))) .taken)
+  unfolding Each
+  accepted-passes t bt c e z =
+      let from = c .known .«alternative_name» .start in
+      let to = c .known .«alternative_name» .end in
+      let subject : General = record { kind = directoryName; content = part t (c .subject .start) (c .subject .end) } in
+      let b = both-pass _ _ z in
+      let l = alternatives-pass t bt to from (b .first) in
+      let n = name-passes directoryName (part t (c .subject .start) (c .subject .end)) (bytes-part t _ _ bt) (b .second) in
+      let ns = generals (to - from) t from to in
+      let one : name s lists directoryName (part t (c .subject .start) (c .subject .end)) .taken ≡ length (subject ∷ []) * entryCount = omega (arith, n .count) in
+      record {
+        names = ns ++ (subject ∷ []);
+        lists-are = n .lists-are;
+        presents = record { c = c; read = e; alternative = ns; is = l .is; named = l .names-named; all = refl };
+        conform = each-append (Conforms other permitted excluded) ns (subject ∷ []) (l .conform) (n .conforms, tt);
+        count = b .taken ∙ more-names ns (subject ∷ []) entryCount _ _ (l .count) one;
+      }
+
+  certificate-passes : (t : List ℕ) → Bytes t → certificate s lists t .refusal ≡ 0 → CertPassed t (certificate s lists t .taken)
+  certificate-passes t bt z = go (readCertificate t true) refl
+    where
+      go : (r : Reading) → readCertificate t true ≡ r → CertPassed t (certificate s lists t .taken)
+      go (Accepted c) e =
+          let q = certificate-is s lists t c e in
+          rw q (accepted-passes t bt c e (ap (λ (x : Tally). x .refusal) (sym q) ∙ z))
+      go (NotRead x) e = absurd (let q : badDer ≡ 0 = ap (λ (y : Tally). y .refusal) (sym (certificate-unread s lists t x e)) ∙ z in omega arith)
+
+  -- ---- several
+  record BelowPassed (cs : List (List ℕ)) (taken : ℕ) : Type 0 where
+    names : List General
+    presented : Presented cs names
+    conform : Each (Conforms other permitted excluded) names
+    count : taken ≡ length names * entryCount
+
+  below-more : (c : List ℕ) (cs : List (List ℕ)) (a b : ℕ) → CertPassed c a → BelowPassed cs b → BelowPassed (c ∷ cs) (a + b)
+  below-more c cs a b x y =
+      record {
+        names = x .names ++ y .names;
+        presented = more (x .presents) (y .presented);
+        conform = each-append (Conforms other permitted excluded) (x .names) (y .names) (x .conform) (y .conform);
+        count = more-names (x .names) (y .names) entryCount a b (x .count) (y .count);
+      }
+
+  below-passes : (cs : List (List ℕ)) → EachBytes cs → below s lists cs .refusal ≡ 0 → BelowPassed cs (below s lists cs .taken)
+  unfolding below EachBytes Each
+  below-passes [] bs z = record { names = []; presented = none; conform = tt; count = omega arith }
+  below-passes (c ∷ cs) bs z =
+      let b = both-pass _ _ z in
+      rw (b .taken) (below-more c cs _ _ (certificate-passes c (bs .0) (b .first)) (below-passes cs (bs .1) (b .second)))
+
+  head-lists : (c : List ℕ) (cs : List (List ℕ)) → EachBytes (c ∷ cs) → below s lists (c ∷ cs) .refusal ≡ 0 → ListsAre
+  unfolding below EachBytes
+  head-lists c cs bs z = certificate-passes c (bs .0) (both-pass _ _ z .first) .lists-are
+
+-- ---- the two lists in the extension
+no-bases : (s : List ℕ) (a b : ℕ) → b ≤ a → bases (b - a) s a b ≡ []
+unfolding bases
+no-bases s a b h = let e : b - a ≡ 0 = omega arith in rw e
+
+record ListHere (s : List ℕ) (from to tag : ℕ) (p : Span) : Type 0 where
+  later : from ≤ p .end
+  field : part s (p .start) (p .end) ≡ subtrees (bases (p .end - p .start) s (p .start) (p .end)) → Field tag (bases (p .end - p .start) s (p .start) (p .end)) (part s from (p .end))
+
+no-content : {e : ℕ} {p : Span} → NoContent e ≡ Content p → ⊥
+no-content h = let z : _≡_ {A = ℕ} 0 1 = cc in omega arith
+
+list-here : (s : List ℕ) → Bytes s → (from to tag : ℕ) (p : Span) → listAt s from to tag ≡ Content p → ListHere s from to tag p
+unfolding listAt
+list-here s b from to tag p e =
+    let x = peel (ltb (length s) to) e no-content in
+    ⊎-elim
+    (λ h. not-there (h .1))
+    (λ h. ⊎-elim (λ i. there (i .1)) (λ i. not-there (i .1)) (either (eqb (getD s from 0) tag) (h .1)))
+    (either (leb to from) (x .1))
+  where
+    not-there : Content (record { start = from; end = from }) ≡ Content p → ListHere s from to tag p
+    not-there q =
+        let r : _≡_ {A = Span} (record { start = from; end = from }) p = cc in
+        rw (← r) (record { later = omega arith; field = λ h. absent (no-bases s from from (omega arith)) (part-empty s from from (omega arith)) })
+
+    there : expectAt s from to tag badDer ≡ Content p → ListHere s from to tag p
+    there q =
+        let l = expect-laid s b from to tag badDer p q in
+        record { later = omega (arith, l .after, l .ordered); field = λ h. present (l .bytes ∙ ap (encoding tag) h) }
+
+record SubtreesHere (s : List ℕ) (from to : ℕ) (lists : Subtrees) : Type 0 where
+  first : ListHere s from to 160 (lists .permitted)
+  second : ListHere s (lists .permitted .end) to 161 (lists .excluded)
+
+no-lists : {l : Subtrees} (e : ℕ) → NoLists e ≡ Are l → ⊥
+no-lists e h = let z : _≡_ {A = ℕ} 0 1 = cc in omega arith
+
+subtrees-here : (s : List ℕ) → Bytes s → (from to : ℕ) (lists : Subtrees) → subtreesAt s from to ≡ Are lists → SubtreesHere s from to lists
+unfolding subtreesAt
+subtrees-here s b from to lists e =
+    let p = on-content (listAt s from to 160) NoLists _ e no-lists in
+    let q = on-content (listAt s (p .0 .end) to 161) NoLists _ (p .2) no-lists in
+    let z : _≡_ {A = Subtrees} (record { permitted = p .0; excluded = q .0 }) lists = cc (q .2) in
+    rw (← z) (record { first = list-here s b from to 160 (p .0) (p .1); second = list-here s b (p .0 .end) to 161 (q .0) (q .1) })
+
+-- ---- one issuer's constraints
+module _ (other : Others) (s : List ℕ) (bytes : Bytes s) (from to : ℕ) (c : List ℕ) (cs : List (List ℕ)) (bs : EachBytes (c ∷ cs)) where
+  lists-met : (lists : Subtrees) → subtreesAt s from to ≡ Are lists → lists .excluded .end ≡ to → below s lists (c ∷ cs) .refusal ≡ 0 → Met other (part s from to) (c ∷ cs) (below s lists (c ∷ cs) .taken)
+  lists-met lists e h z =
+      let l = subtrees-here s bytes from to lists e in
+      let a = head-lists other s bytes lists c cs bs z in
+      let b = below-passes other s bytes lists (c ∷ cs) bs z in
+      let w : lists .permitted .end ≤ to = omega (arith, l .second .later) in
+      record {
+        permitted = permitted other s bytes lists;
+        excluded = excluded other s bytes lists;
+        names = b .names;
+        is =
+            record {
+              first = part s from (lists .permitted .end);
+              second = part s (lists .permitted .end) to;
+              is = part-split s from (lists .permitted .end) to (l .first .later) w;
+              permitted-is = l .first .field (a .permitted-is);
+              excluded-is = rw (← h) (l .second .field (a .excluded-is));
+              named = (a .permitted-named, a .excluded-named);
+            };
+        presented = b .presented;
+        conform = b .conform;
+        cost = b .count;
+      }
+
+  pub constraints-met : constraints s from to (c ∷ cs) .refusal ≡ 0 → Met other (part s from to) (c ∷ cs) (constraints s from to (c ∷ cs) .taken)
+  constraints-met z = go (subtreesAt s from to) refl
+    where
+      go : (l : Lists) → subtreesAt s from to ≡ l → Met other (part s from to) (c ∷ cs) (constraints s from to (c ∷ cs) .taken)
+      go (Are lists) e =
+          let q = constraints-are s from to (c ∷ cs) lists e in
+          let b = both-pass _ _ (ap (λ (x : Tally). x .refusal) (sym q) ∙ z) in
+          by-end lists e q b (eqb (lists .excluded .end) to) refl
+        where
+          by-end : (lists : Subtrees) → subtreesAt s from to ≡ Are lists → constraints s from to (c ∷ cs) ≡ after (below s lists (c ∷ cs)) (cond (eqb (lists .excluded .end) to) clean (tally 0 badDer))
+              → BothPass (below s lists (c ∷ cs)) (cond (eqb (lists .excluded .end) to) clean (tally 0 badDer)) → (t : Bool) → eqb (lists .excluded .end) to ≡ t
+              → Met other (part s from to) (c ∷ cs) (constraints s from to (c ∷ cs) .taken)
+          by-end lists e q b true h =
+              let n : constraints s from to (c ∷ cs) .taken ≡ below s lists (c ∷ cs) .taken =
+              ap (λ (x : Tally). x .taken) q ∙ b .taken ∙ rw h (omega arith) in
+              rw n (lists-met lists e (eqb-true _ _ h) (b .first))
+          by-end lists e q b false h = absurd (let y : badDer ≡ 0 = rw h at (b .second) in omega arith)
+      go (NoLists x) e =
+          let n : Listed (NoLists x) = rw e at (lists-listed s from to) in
+          absurd (n (ap (λ (y : Tally). y .refusal) (sym (constraints-none s from to (c ∷ cs) x e)) ∙ z))
+
+-- ---- an issuer, the issuers, the path
+own-met : (other : Others) (t : List ℕ) → Bytes t → (c : List ℕ) (cs : List (List ℕ)) → EachBytes (c ∷ cs) → own t (c ∷ cs) .refusal ≡ 0 → OwnMet other t (c ∷ cs) (own t (c ∷ cs) .taken)
+own-met other t bt c cs bs z = go (readCertificate t true) refl
+  where
+    go : (r : Reading) → readCertificate t true ≡ r → OwnMet other t (c ∷ cs) (own t (c ∷ cs) .taken)
+    go (Accepted x) e =
+        record {
+          c = x;
+          read = e;
+          bound =
+              λ h.
+              let q = own-bound t (c ∷ cs) x e h in
+              rw q (constraints-met other t bt _ _ c cs bs (ap (λ (y : Tally). y .refusal) (sym q) ∙ z));
+          free = λ h. ap (λ (y : Tally). y .taken) (own-free t (c ∷ cs) x e h);
+        }
+    go (NotRead x) e = absurd (let q : badDer ≡ 0 = ap (λ (y : Tally). y .refusal) (sym (own-unread t (c ∷ cs) x e)) ∙ z in omega arith)
+
+issuers-met : (other : Others) (c : List ℕ) (cs : List (List ℕ)) → EachBytes (c ∷ cs) → issuers (c ∷ cs) .refusal ≡ 0 → IssuersMet other (c ∷ cs) (issuers (c ∷ cs) .taken)
+unfolding issuers EachBytes
+issuers-met other c [] bs z = last c
+issuers-met other c (d ∷ ds) bs z =
+    let b = both-pass _ _ z in
+    rw (b .taken) (also (own-met other c (bs .0) d ds (bs .1) (b .first)) (issuers-met other d ds (bs .1) (b .second)))
+
+part-all : (s : List ℕ) → part s 0 (length s) ≡ s
+unfolding part
+part-all s = let e : length s - 0 ≡ length s = omega arith in rw e (take-all (length s) s (omega arith))
+
+anchor-met : (other : Others) (anchor : List ℕ) → Bytes anchor → (x : Bool) (c : List ℕ) (cs : List (List ℕ)) → EachBytes (c ∷ cs) → x ≡ true → anchored anchor x (c ∷ cs) .refusal ≡ 0
+    → Met other anchor (c ∷ cs) (anchored anchor x (c ∷ cs) .taken)
+unfolding anchored
+anchor-met other anchor ba true c cs bs h z = rw (part-all anchor) at (constraints-met other anchor ba 0 (length anchor) c cs bs z)
+anchor-met other anchor ba false c cs bs h z = absurd (let y : _≡_ {A = ℕ} 0 1 = cc in omega arith)
+
+anchor-none : (anchor : List ℕ) (x : Bool) (cs : List (List ℕ)) → x ≡ false → anchored anchor x cs .taken ≡ 0
+unfolding anchored
+anchor-none anchor x cs h = rw h
+
+-- THEOREM: a path of which nothing is refused meets the constraints of its anchor and of each issuer, in the RFC's sense, whatever it is to be in a
+-- subtree of the kinds other than DNS names and addresses; and what it costs is the sum over those constraints, and the certificates that
+-- each applies to, of names and subject times entries
+pub never-weaker : (other : Others) (anchor : List ℕ) → Bytes anchor → (bound : Bool) (c : List ℕ) (cs : List (List ℕ)) → EachBytes (c ∷ cs) → named anchor bound (c ∷ cs) ≡ 0
+    → PathMet other anchor bound (c ∷ cs) (cost anchor bound (c ∷ cs))
+unfolding pathConstraints
+never-weaker other anchor ba bound c cs bs z =
+    let b = both-pass (anchored anchor bound (c ∷ cs)) (issuers (c ∷ cs)) z in
+    record {
+      by-anchor = anchored anchor bound (c ∷ cs) .taken;
+      by-issuers = issuers (c ∷ cs) .taken;
+      anchor-bound = λ h. anchor-met other anchor ba bound c cs bs h (b .first);
+      anchor-free = λ h. anchor-none anchor bound (c ∷ cs) h;
+      issuers-met = issuers-met other c cs bs (b .second);
+      cost = b .taken;
+    }

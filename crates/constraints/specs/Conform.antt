@@ -1,0 +1,65 @@
+-- What it is for a path to meet the name constraints of its anchor and its issuers, and at how many comparisons. A certificate's fields are
+-- those that crate `cert` reads.
+use Prim.Native.Nat.{ℕ, _+_, _*_}
+use mathlib.Core.Path.{_≡_}
+use mathlib.Core.List.{List, [], _∷_, _++_}
+use mathlib.Core.Bool.{Bool, true, false}
+use lib.ListN.{length}
+use Rattle.der.specs.Places.{Bytes, part}
+use Rattle.cert.specs.declared.Certificate.{Certificate}
+use Rattle.cert.specs.declared.Reading.the-variants.{Accepted}
+use Rattle.cert.specs.Model.{readCertificate}
+use Rattle.names.specs.General.{General, Named, encoded, Each}
+use Rattle.constraints.specs.Rfc5280Names.{directoryName, NameConstraints, Others, Conforms}
+
+-- bytes, as every certificate has them
+unfoldable pub EachBytes : List (List ℕ) → Type 0
+EachBytes [] = Unit {0}
+EachBytes (c ∷ cs) = Bytes c × EachBytes cs
+
+-- the names of a certificate: its alternative names, and its subject, which is a directory name. THE ONE EXCEPTION: 4.2.1.10 has entries of
+-- kind rfc822Name apply to a mail address in the subject too, where there is no alternative name. Nothing here looks into a subject, so that
+-- such an address is not among the names; docs/DIFFERENCES.md has a certificate that shows it.
+pub record Presents (t : List ℕ) (names : List General) : Type 0 where
+  pub c : Certificate
+  pub read : readCertificate t true ≡ Accepted c
+  pub alternative : List General
+  pub is : part t (c .known .«alternative_name» .start) (c .known .«alternative_name» .end) ≡ encoded alternative
+  pub named : Each Named alternative
+  pub all : names ≡ alternative ++ (record { kind = directoryName; content = part t (c .subject .start) (c .subject .end) } ∷ [])
+
+-- those of several certificates
+pub data Presented : List (List ℕ) → List General → Type 0 where
+  none : Presented [] []
+  more : {t : List ℕ} {ts : List (List ℕ)} {ns ms : List General} → Presents t ns → Presented ts ms → Presented (t ∷ ts) (ns ++ ms)
+
+-- name constraints of this content, and the certificates that they apply to, each of whose names conforms; n comparisons are taken: one for each
+-- name and each entry, a certificate having one name more than alternative names
+pub record Met (other : Others) (content : List ℕ) (cs : List (List ℕ)) (n : ℕ) : Type 0 where
+  pub permitted : List General
+  pub excluded : List General
+  pub names : List General
+  pub is : NameConstraints content permitted excluded
+  pub presented : Presented cs names
+  pub conform : Each (Conforms other permitted excluded) names
+  pub cost : n ≡ length names * (length permitted + length excluded)
+
+-- the constraints of the certificate t, if it has any, met by the certificates cs; self-issued ones are no exception
+pub record OwnMet (other : Others) (t : List ℕ) (cs : List (List ℕ)) (n : ℕ) : Type 0 where
+  pub c : Certificate
+  pub read : readCertificate t true ≡ Accepted c
+  pub bound : c .known .«name_constraints» .known ≡ true → Met other (part t (c .known .«name_constraints» .start) (c .known .«name_constraints» .end)) cs n
+  pub free : c .known .«name_constraints» .known ≡ false → n ≡ 0
+
+-- a path, the highest certificate first and the end entity last: the constraints of each are met by all below it
+pub data IssuersMet (other : Others) : List (List ℕ) → ℕ → Type 0 where
+  last : (c : List ℕ) → IssuersMet other (c ∷ []) 0
+  more : {c d : List ℕ} {ds : List (List ℕ)} {n m : ℕ} → OwnMet other c (d ∷ ds) n → IssuersMet other (d ∷ ds) m → IssuersMet other (c ∷ (d ∷ ds)) (n + m)
+
+pub record PathMet (other : Others) (anchor : List ℕ) (bound : Bool) (cs : List (List ℕ)) (n : ℕ) : Type 0 where
+  pub by-anchor : ℕ
+  pub by-issuers : ℕ
+  pub anchor-bound : bound ≡ true → Met other anchor cs by-anchor
+  pub anchor-free : bound ≡ false → by-anchor ≡ 0
+  pub issuers-met : IssuersMet other cs by-issuers
+  pub cost : n ≡ by-anchor + by-issuers

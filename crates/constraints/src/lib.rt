@@ -1,0 +1,308 @@
+// Name constraints of a path, RFC 5280, 4.2.1.10: those of the anchor and of each issuer against every certificate below, down to the end
+// entity.
+use cert::Reading;
+use der::Got;
+use der::Span;
+use names::general;
+use names::general::Name;
+ghost use mathlib.Core.Path.{_≡_};
+ghost use mathlib.Core.List.{map};
+ghost use lib.ListN.{getD, length};
+ghost use Rattle.constraints.specs.Tally.{spend};
+ghost use Rattle.constraints.specs.Paths.{certAt, certsAt};
+ghost use Rattle.constraints.specs.Model.{listAt, subtreesAt, name, alternatives, certificate, below, constraints, own, anchored, pathConstraints};
+
+pub mod entries;
+
+// What is left of the comparisons, and the first refusal; 0: none.
+pub struct Spent {
+    pub left: u64,
+    pub refusal: u16,
+}
+
+// The two lists of name constraints, each without its header; one that is not there is empty.
+pub struct Subtrees {
+    pub permitted: Span,
+    pub excluded: Span,
+}
+
+pub enum Lists {
+    Are(Subtrees),
+    Refused(u16),
+}
+
+// The list of a tag at `from`; where it is not there an empty one.
+fn list_at(s: &[u8], from: usize, to: usize, tag: u8) -> Got
+    ensures { λ r. ⌜ r ≡ listAt (now (s .entry)) from to tag ⌝ }
+{
+    if s.len() < to {
+        return Got::Refused(refusal::BAD_DER);
+    }
+    if to <= from {
+        return Got::Content(Span {
+            start: from,
+            end: from,
+        });
+    }
+    if s[from] != tag {
+        return Got::Content(Span {
+            start: from,
+            end: from,
+        });
+    }
+    der::expect(s, from, to, tag, refusal::BAD_DER)
+}
+
+// The lists of the name constraints whose content stands between the places. What comes after them is the caller's.
+fn subtrees_at(s: &[u8], from: usize, to: usize) -> Lists
+    ensures { λ r. ⌜ r ≡ subtreesAt (now (s .entry)) from to ⌝ }
+{
+    let permitted = match list_at(s, from, to, 0xa0) {
+        Got::Content(p) => p,
+        Got::Refused(e) => return Lists::Refused(e),
+    };
+    match list_at(s, permitted.end, to, 0xa1) {
+        Got::Content(excluded) => Lists::Are(Subtrees {
+            permitted,
+            excluded,
+        }),
+        Got::Refused(e) => Lists::Refused(e),
+    }
+}
+
+// The name p of a kind against both lists.
+fn name(s: &[u8], lists: Subtrees, kind: u8, p: &[u8], left: u64) -> Spent
+    ensures { λ r. ⌜ r ≡ spend left (name (now (s .entry)) lists kind (now (p .entry))) ⌝ }
+{
+    let permitted = lists.permitted;
+    let first = entries::all(s, permitted.start, permitted.end, false, kind, p, left);
+    if first.refusal != 0 {
+        return first;
+    }
+    let excluded = lists.excluded;
+    entries::all(s, excluded.start, excluded.end, true, kind, p, first.left)
+}
+
+// The alternative names of t between the places.
+fn alternatives(s: &[u8], lists: Subtrees, t: &[u8], from: usize, to: usize, left: u64) -> Spent
+    ensures { λ r. ⌜ r ≡ spend left (alternatives (now (s .entry)) lists (now (t .entry)) from to) ⌝ }
+{
+    let mut at = from;
+    let mut rest = left;
+    while at < to {
+        match general::general_name(t, at, to) {
+            Name::Found { kind, start, end } => {
+                let one = name(s, lists, kind, &t[start..end], rest);
+                if one.refusal != 0 {
+                    return one;
+                }
+                rest = one.left;
+                at = end;
+            }
+            Name::Refused(e) => {
+                return Spent {
+                    left: rest,
+                    refusal: e,
+                };
+            }
+        }
+    }
+    Spent {
+        left: rest,
+        refusal: 0,
+    }
+}
+
+// The certificate t: its alternative names, then its subject, which is a directory name.
+fn certificate(s: &[u8], lists: Subtrees, t: &[u8], left: u64) -> Spent
+    ensures { λ r. ⌜ r ≡ spend left (certificate (now (s .entry)) lists (now (t .entry))) ⌝ }
+{
+    match cert::read(t, true) {
+        Reading::Accepted(c) => {
+            let known = c.known;
+            let names = known.alternative_name;
+            let named = alternatives(s, lists, t, names.start, names.end, left);
+            if named.refusal != 0 {
+                return named;
+            }
+            let subject = c.subject;
+            let start = subject.start;
+            let end = subject.end;
+            name(s, lists, general::DIRECTORY, &t[start..end], named.left)
+        }
+        Reading::Refused(_) => Spent {
+            left,
+            refusal: refusal::BAD_DER,
+        },
+    }
+}
+
+// The number at a place of a path; beyond its end 0.
+fn number_at(path: [usize; 7], i: usize) -> usize
+    ensures { λ r. ⌜ r ≡ getD path i 0 ⌝ }
+{
+    if i < 7 { path[i] } else { 0 }
+}
+
+// The certificate of a number: an intermediate, or from their end on the end entity.
+fn numbered(s: &[u8], lists: Subtrees, issuers: &[&[u8]], end: &[u8], i: usize, left: u64) -> Spent
+    ensures { λ r. ⌜ r ≡ spend left (certificate (now (s .entry)) lists (certAt (map now (now (issuers .entry))) (now (end .entry)) i)) ⌝ }
+{
+    if i < issuers.len() {
+        let t = issuers[i];
+        certificate(s, lists, t, left)
+    } else {
+        certificate(s, lists, end, left)
+    }
+}
+
+// The certificates of a path from the one at `level` down to the end entity.
+fn below(
+    s: &[u8],
+    lists: Subtrees,
+    issuers: &[&[u8]],
+    end: &[u8],
+    path: [usize; 7],
+    level: usize,
+    left: u64,
+) -> Spent
+    ensures { λ r. ⌜ r ≡ spend left (below (now (s .entry)) lists (certsAt (map now (now (issuers .entry))) (now (end .entry)) path level)) ⌝ }
+{
+    let mut k = level;
+    let mut rest = left;
+    loop {
+        let one = numbered(s, lists, issuers, end, number_at(path, k), rest);
+        if one.refusal != 0 {
+            return one;
+        }
+        if k == 0 {
+            return one;
+        }
+        rest = one.left;
+        k -= 1;
+    }
+}
+
+// The name constraints whose content stands between the places, against the certificates from `level` down. What is left over after
+// the lists is noticed last.
+fn constrain(
+    s: &[u8],
+    from: usize,
+    to: usize,
+    issuers: &[&[u8]],
+    end: &[u8],
+    path: [usize; 7],
+    level: usize,
+    left: u64,
+) -> Spent
+    ensures { λ r. ⌜ r ≡ spend left (constraints (now (s .entry)) from to (certsAt (map now (now (issuers .entry))) (now (end .entry)) path level)) ⌝ }
+{
+    match subtrees_at(s, from, to) {
+        Lists::Are(lists) => {
+            let all = below(s, lists, issuers, end, path, level, left);
+            if all.refusal != 0 {
+                return all;
+            }
+            let excluded = lists.excluded;
+            if excluded.end == to {
+                return all;
+            }
+            Spent {
+                left: all.left,
+                refusal: refusal::BAD_DER,
+            }
+        }
+        Lists::Refused(e) => Spent { left, refusal: e },
+    }
+}
+
+// The certificate t's own constraints, if it has any, against the certificates from `level` down.
+fn own(t: &[u8], issuers: &[&[u8]], end: &[u8], path: [usize; 7], level: usize, left: u64) -> Spent
+    ensures { λ r. ⌜ r ≡ spend left (own (now (t .entry)) (certsAt (map now (now (issuers .entry))) (now (end .entry)) path level)) ⌝ }
+{
+    match cert::read(t, true) {
+        Reading::Accepted(c) => {
+            let known = c.known;
+            let held = known.name_constraints;
+            if held.known {
+                return constrain(t, held.start, held.end, issuers, end, path, level, left);
+            }
+            Spent { left, refusal: 0 }
+        }
+        Reading::Refused(_) => Spent {
+            left,
+            refusal: refusal::BAD_DER,
+        },
+    }
+}
+
+// The same of the certificate number i.
+fn issuer(
+    issuers: &[&[u8]],
+    end: &[u8],
+    i: usize,
+    path: [usize; 7],
+    level: usize,
+    left: u64,
+) -> Spent
+    ensures { λ r. ⌜ r ≡ spend left (own (certAt (map now (now (issuers .entry))) (now (end .entry)) i) (certsAt (map now (now (issuers .entry))) (now (end .entry)) path level)) ⌝ }
+{
+    if i < issuers.len() {
+        let t = issuers[i];
+        own(t, issuers, end, path, level, left)
+    } else {
+        own(end, issuers, end, path, level, left)
+    }
+}
+
+// The constraints of the anchor, if it has any, against the certificates from `level` down.
+fn anchored(
+    issuers: &[&[u8]],
+    end: &[u8],
+    path: [usize; 7],
+    level: usize,
+    anchor: &[u8],
+    bound: bool,
+    left: u64,
+) -> Spent
+    ensures { λ r. ⌜ r ≡ spend left (anchored (now (anchor .entry)) bound (certsAt (map now (now (issuers .entry))) (now (end .entry)) path level)) ⌝ }
+{
+    if bound {
+        return constrain(anchor, 0, anchor.len(), issuers, end, path, level, left);
+    }
+    Spent { left, refusal: 0 }
+}
+
+// The name constraints of a path under an anchor, whose own are in `anchor` if it is `bound`. path[0] is the end entity's number and
+// path[depth] that of the highest certificate; a number stands for that intermediate, or from their end on for the end entity.
+pub fn path_constraints(
+    issuers: &[&[u8]],
+    end: &[u8],
+    path: [usize; 7],
+    depth: usize,
+    anchor: &[u8],
+    bound: bool,
+    left: u64,
+) -> Spent
+    ensures { λ r. ⌜ r ≡ spend left (pathConstraints (now (anchor .entry)) bound (certsAt (map now (now (issuers .entry))) (now (end .entry)) path depth)) ⌝ }
+{
+    let first = anchored(issuers, end, path, depth, anchor, bound, left);
+    if first.refusal != 0 {
+        return first;
+    }
+    let mut k = depth;
+    let mut rest = first.left;
+    while 0 < k {
+        let i = number_at(path, k);
+        k -= 1;
+        let one = issuer(issuers, end, i, path, k, rest);
+        if one.refusal != 0 {
+            return one;
+        }
+        rest = one.left;
+    }
+    Spent {
+        left: rest,
+        refusal: 0,
+    }
+}

@@ -1,0 +1,134 @@
+-- A question's places are those of the certificate's skeleton, and no answer comes to yes where the key cannot be read. Assumes nothing.
+use Prim.Native.Nat.{ℕ, _<_}
+use mathlib.Core.Path.{_≡_, refl, sym, ap, _∙_}
+use mathlib.Core.List.{List, []}
+use mathlib.Core.Bool.{true}
+use mathlib.Core.Logic.{⊎-elim}
+use lib.ListN.{length, getD}
+use lib.Dec.{lit<, ltb, eqb}
+use native.Mathlib.Omega.{arith}
+use borrow.Author.Tests.{ltb-true, ltb-false, eqb-true}
+use Rattle.refusal.specs.Refusals.{badDer, unsupportedSignatureAlgorithm}
+use Rattle.der.specs.declared.Span.{Span}
+use Rattle.der.specs.Places.{Bytes, part}
+use Rattle.der.specs.Model.{expectAt, bitsAt}
+use Rattle.der.proofs.Invert.{either}
+use Rattle.cert.specs.declared.Certificate.{Certificate}
+use Rattle.cert.specs.declared.Reading.{Reading}
+use Rattle.cert.specs.declared.Reading.the-variants.{Accepted, Refused as NoCertificate}
+use Rattle.cert.specs.declared.key.Key.{Key}
+use Rattle.cert.specs.declared.key.Key.the-variants.{Parts as KeyParts, Refused as NoKey}
+use Rattle.cert.specs.Model.{readCertificate, keyParts}
+use Rattle.cert.proofs.Value.{part-whole}
+use Rattle.cert.proofs.Sound.{sound}
+use Rattle.cert.proofs.PublicKeys.{key-sound}
+use Rattle.cert.proofs.Refusals.{by-test, by-content, expect-fair, bits-fair, ReadingFair, reading-is, reading-not, read-fair}
+use Rattle.path.specs.declared.asked.Question.the-variants.{Of, Refused as NoQuestion}
+use Rattle.path.specs.Lent.{certificateOf}
+use Rattle.path.specs.Questions.{Signed, of-anchor, of-certificate, Opens}
+use Rattle.path.specs.Model.{onReading, keyOf, questionOf, replyFor, replyOf}
+use Rattle.path.proofs.Contents.{at, contentsOf}
+use Rattle.path.proofs.Skeletons.{reads-certificate}
+use Rattle.path.proofs.Verdicts.{on-reading}
+
+-- ---- the question
+module _ (issuers : List (List ℕ)) (end : List ℕ) (keys : List (List ℕ)) (anchors key n : ℕ) where
+  pub question-sound : Bytes (certificateOf issuers end anchors n) → (signed algorithm signature : Span) (parts : Key) → questionOf issuers end keys anchors key n ≡ Of signed algorithm signature parts
+      → Signed (certificateOf issuers end anchors n) signed algorithm signature × (parts ≡ keyOf issuers end keys anchors key)
+  unfolding questionOf
+  question-sound b signed algorithm signature parts e =
+      let s = certificateOf issuers end anchors n in
+      let p = on-reading (readCertificate s true) NoQuestion _ e (λ x q. let z : _≡_ {A = ℕ} 0 1 = cc in omega arith) in
+      let c = p .0 in
+      let z = sound s b true c (p .1) in
+      let f : c .signed ≡ signed = cc (p .2) in
+      let g : c .algorithm ≡ algorithm = cc (p .2) in
+      let h : c .signature ≡ signature = cc (p .2) in
+      let i : keyOf issuers end keys anchors key ≡ parts = cc (p .2) in (
+        record {
+          k = z .k;
+          bytes = z .bytes;
+          rules = z .rules;
+          signed-is = sym (ap (at s) f) ∙ z .cut .signed;
+          algorithm-is = sym (ap (at s) g) ∙ z .cut .algorithm;
+          signature-is = sym (ap (at s) h) ∙ z .cut .signature;
+        },
+        sym i,
+      )
+
+-- ---- the reply
+data KeyFair : Key → Type 0 where
+  key-is : (p q : Span) → KeyFair (KeyParts p q)
+  key-not : {e : ℕ} → 0 < e → KeyFair (NoKey e)
+
+parts-fair : (s : List ℕ) (from to : ℕ) → KeyFair (keyParts s from to)
+unfolding keyParts
+parts-fair s from to =
+    by-content KeyFair (expectAt s from to 48 badDer) NoKey _ (expect-fair s from to 48 _ (lit< tt)) (λ e h. key-not h) (λ a b.
+    by-content KeyFair (bitsAt s b to) NoKey _ (bits-fair s b to) (λ e h. key-not h) (λ c d.
+    by-test KeyFair (eqb d to) (key-is _ _) (key-not (lit< tt))))
+
+on-reading-fair : (g : Reading) (k : Certificate → Key) → ReadingFair g → ((c : Certificate) → KeyFair (k c)) → KeyFair (onReading g NoKey k)
+unfolding onReading
+on-reading-fair (Accepted c) k (reading-is d) i = i c
+on-reading-fair (NoCertificate e) k (reading-not f) i = key-not f
+
+module _ (issuers : List (List ℕ)) (end : List ℕ) (keys : List (List ℕ)) (anchors n : ℕ) where
+  key-fair : KeyFair (keyOf issuers end keys anchors n)
+  unfolding keyOf
+  key-fair =
+      let s = certificateOf issuers end anchors n in
+      by-test KeyFair (ltb n anchors)
+      (by-test KeyFair (ltb n (length keys)) (parts-fair (getD keys n []) 0 (length (getD keys n []))) (key-not (lit< tt)))
+      (on-reading-fair (readCertificate s true) _ (read-fair s true) (λ c. parts-fair s (c .key .start) (c .key .end)))
+
+  opened : Bytes (getD keys n []) → Bytes (certificateOf issuers end anchors n) → (p q : Span) → keyOf issuers end keys anchors n ≡ KeyParts p q → Opens issuers end keys anchors n
+  unfolding keyOf
+  opened bk bc p q e =
+      let s = certificateOf issuers end anchors n in
+      let k = getD keys n [] in
+      ⊎-elim
+      (λ w.
+      ⊎-elim
+      (λ y.
+      let h = key-sound k bk 0 (length k) p q (y .1) in
+      record {
+        key = k;
+        is = of-anchor (ltb-true _ _ (w .0)) (ltb-true _ _ (y .0)) refl;
+        algorithm = _;
+        bits = _;
+        content = sym (part-whole k) ∙ h .bytes;
+      })
+      (λ y. absurd (let u = y .1 in let z : _≡_ {A = ℕ} 0 1 = cc in omega arith))
+      (either (ltb n (length keys)) (w .1)))
+      (λ w.
+      let r = on-reading (readCertificate s true) NoKey _ (w .1) (λ x u. let z : _≡_ {A = ℕ} 0 1 = cc in omega arith) in
+      let c = r .0 in
+      let h = key-sound s bc (c .key .start) (c .key .end) p q (r .2) in
+      record {
+        key = part s (c .key .start) (c .key .end);
+        is = of-certificate (ltb-false _ _ (w .0)) (contentsOf s c) (reads-certificate s bc (contentsOf s c) (c, r .1, refl)) refl;
+        algorithm = _;
+        bits = _;
+        content = h .bytes;
+      })
+      (either (ltb n anchors) e)
+
+  replied : (answer : ℕ) (k : Key) → KeyFair k → replyFor answer k ≡ 0 → (answer ≡ 0) × ((p : Span) × (q : Span) × (k ≡ KeyParts p q))
+  unfolding replyFor
+  replied answer (KeyParts p q) f e = (e, (p, q, refl))
+  replied answer (NoKey x) (key-not f) e = absurd (omega arith)
+
+  pub reply-sound : Bytes (getD keys n []) → Bytes (certificateOf issuers end anchors n) → (answer : ℕ) → replyOf issuers end keys anchors n answer ≡ 0 → (answer ≡ 0) × Opens issuers end keys anchors n
+  unfolding replyOf
+  reply-sound bk bc answer e =
+      ⊎-elim
+      (λ w. absurd (let u : answer ≡ unsupportedSignatureAlgorithm = eqb-true _ _ (w .0) in let v : answer ≡ 0 = w .1 in omega arith))
+      (λ w.
+      let r = replied answer (keyOf issuers end keys anchors n) key-fair (w .1) in
+      (r .0, opened bk bc (r .1 .0) (r .1 .1) (r .1 .2)))
+      (either (eqb answer unsupportedSignatureAlgorithm) e)
+
+  pub reply-complete : (p q : Span) → keyOf issuers end keys anchors n ≡ KeyParts p q → replyOf issuers end keys anchors n 0 ≡ 0
+  unfolding replyOf replyFor
+  reply-complete p q e = rw e

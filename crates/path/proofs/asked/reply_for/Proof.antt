@@ -1,0 +1,30 @@
+use Rattle.path.specs.Model.{replyOf, replyFor}
+use borrow.Author.Needs.{needs}
+use Rattle.der.proofs.Laws.{tests}
+use Rattle.path.proofs.asked.reply_for.Statement.{statement}
+use Rattle.path.proofs.asked.reply_for.Tie as tie
+
+returns : tie.Need-returns
+unfolding replyOf
+returns c = search tests
+
+key-of-requires : tie.Need-key-of-requires
+key-of-requires c κs = search needs
+
+enum-known-e : tie.Need-enum-known-e
+enum-known-e c = search needs
+
+enum-told : tie.Need-enum-told
+enum-told c = search needs
+
+returns-2 : tie.Need-returns-2
+unfolding replyOf replyFor
+returns-2 c = search (tests, ← c .before .before .before .key-of .ensures, c .before .e .given .1)
+
+returns-3 : tie.Need-returns-3
+unfolding replyOf replyFor
+returns-3 c = search (tests, ← c .before .before .key-of .ensures, c .enum-told .given .1)
+
+pub reply-for-spec : {M : Type 1} → statement M
+reply-for-spec =
+    tie.close (tie.spec returns key-of-requires enum-known-e enum-told returns-2 returns-3)

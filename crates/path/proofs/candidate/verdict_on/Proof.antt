@@ -1,0 +1,61 @@
+use mathlib.Core.Path.{sym, _∙_}
+use denote.Ref.{now}
+use lib.ListN.{length-map}
+use Rattle.path.proofs.Laws.{verdict-deep, verdict-refused, verdict-anchor, verdict-issuer}
+use borrow.Author.Needs.{needs}
+use native.Mathlib.Omega.{arith}
+use Rattle.path.proofs.candidate.verdict_on.Statement.{statement}
+use Rattle.path.proofs.candidate.verdict_on.Tie as tie
+
+returns : tie.Need-returns
+returns c = verdict-deep _ _ (c .before .before .args .path) (c .before .before .args .depth) _ _ _ (c .before .before .args .i) (omega arith)
+
+number-at-requires : tie.Need-number-at-requires
+number-at-requires c κs = search needs
+
+certificate-requires : tie.Need-certificate-requires
+certificate-requires c κs = search needs
+
+read-requires : tie.Need-read-requires
+read-requires c κs = search needs
+
+enum-known-c : tie.Need-enum-known-c
+enum-known-c c = search needs
+
+anchor-at-requires : tie.Need-anchor-at-requires
+anchor-at-requires c κs = search needs
+
+returns-2 : tie.Need-returns-2
+returns-2 c = let arm = c .before .before .before .before in c .anchor-at .ensures ∙ verdict-anchor _ _ (c .before .before .before .before .before .before .before .before .before .before .before .args .path) (c .before .before .before .before .before .before .before .before .before .before .before .args .depth) _ _ _ _ (sym (length-map (c .before .before .before .before .before .before .before .before .before .before .before .args .subjects .now) now)) (omega arith) (arm .before .before .before .before .number-at .ensures) (arm .before .before .before .certificate .ensures) (sym (arm .before .before .read .ensures) ∙ arm .c .given .1) (omega arith)
+
+certificate-requires-2 : tie.Need-certificate-requires-2
+certificate-requires-2 c κs = search needs
+
+issuer-verdict-requires : tie.Need-issuer-verdict-requires
+issuer-verdict-requires c κs = search needs
+
+enum-known-e : tie.Need-enum-known-e
+enum-known-e c = search needs
+
+returns-3 : tie.Need-returns-3
+returns-3 c = let arm = c .before .before .before .before .before in c .issuer-verdict .ensures ∙ verdict-issuer _ _ (c .before .before .before .before .before .before .before .before .before .before .before .before .args .path) (c .before .before .before .before .before .before .before .before .before .before .before .before .args .depth) _ _ _ _ (sym (length-map (c .before .before .before .before .before .before .before .before .before .before .before .before .args .subjects .now) now)) (omega arith) (arm .before .before .before .before .number-at .ensures) (arm .before .before .before .certificate .ensures) (sym (arm .before .before .read .ensures) ∙ arm .c .given .1) (omega arith) (c .before .certificate2 .ensures)
+
+returns-4 : tie.Need-returns-4
+returns-4 c = let arm = c .before in verdict-refused _ _ (c .before .before .before .before .before .before .before .before .args .path) (c .before .before .before .before .before .before .before .before .args .depth) _ _ _ _ (sym (length-map (c .before .before .before .before .before .before .before .before .args .subjects .now) now)) (omega arith) (arm .before .before .before .before .number-at .ensures) (arm .before .before .before .certificate .ensures) (sym (arm .before .before .read .ensures) ∙ arm .e .given .1)
+
+pub verdict-on-spec : {M : Type 1} → statement M
+verdict-on-spec =
+    tie.close
+    (tie.spec
+    returns
+    number-at-requires
+    certificate-requires
+    read-requires
+    enum-known-c
+    anchor-at-requires
+    returns-2
+    certificate-requires-2
+    issuer-verdict-requires
+    enum-known-e
+    returns-3
+    returns-4)

@@ -1,0 +1,46 @@
+use Rattle.cert.specs.Model.{onTruth}
+use Rattle.path.specs.Model.{basicIn}
+use borrow.Author.Needs.{needs}
+use Rattle.der.proofs.Laws.{tests}
+use Rattle.path.proofs.own.basic_in.Statement.{statement}
+use Rattle.path.proofs.own.basic_in.Tie as tie
+
+read-bool-requires : tie.Need-read-bool-requires
+read-bool-requires c κs = search needs
+
+enum-known-authority : tie.Need-enum-known-authority
+enum-known-authority c = search needs
+
+in-role-requires : tie.Need-in-role-requires
+in-role-requires c κs = search needs
+
+returns : tie.Need-returns
+unfolding basicIn onTruth
+returns c = let arm = c .before .before .before in search (tests, ← arm .before .before .read-bool .ensures, arm .authority .given .1, ← c .in-role .ensures)
+
+bounded-role-requires : tie.Need-bounded-role-requires
+bounded-role-requires c κs = search needs
+
+enum-known-e : tie.Need-enum-known-e
+enum-known-e c = search needs
+
+returns-2 : tie.Need-returns-2
+unfolding basicIn onTruth
+returns-2 c = let arm = c .before .before .before in search (tests, ← arm .before .before .read-bool .ensures, arm .authority .given .1, ← c .bounded-role .ensures)
+
+returns-3 : tie.Need-returns-3
+unfolding basicIn onTruth
+returns-3 c = let arm = c .before in search (tests, ← arm .before .before .read-bool .ensures, arm .e .given .1)
+
+pub basic-in-spec : {M : Type 1} → statement M
+basic-in-spec =
+    tie.close
+    (tie.spec
+    read-bool-requires
+    enum-known-authority
+    in-role-requires
+    returns
+    bounded-role-requires
+    enum-known-e
+    returns-2
+    returns-3)

@@ -1,0 +1,31 @@
+use Rattle.path.specs.Model.{ownOf, firstOf}
+use borrow.Author.Needs.{needs}
+use Rattle.der.proofs.Laws.{tests}
+use Rattle.path.proofs.own.checks.Statement.{statement}
+use Rattle.path.proofs.own.checks.Tie as tie
+
+validity-requires : tie.Need-validity-requires
+validity-requires c κs = search needs
+
+returns : tie.Need-returns
+unfolding ownOf firstOf
+returns c = search (tests, ← c .before .validity .ensures)
+
+basic-requires : tie.Need-basic-requires
+basic-requires c κs = search needs
+
+returns-2 : tie.Need-returns-2
+unfolding ownOf firstOf
+returns-2 c = search (tests, ← c .before .before .before .before .before .validity .ensures, ← c .before .basic .ensures)
+
+purposes-requires : tie.Need-purposes-requires
+purposes-requires c κs = search needs
+
+returns-3 : tie.Need-returns-3
+unfolding ownOf firstOf
+returns-3 c = search (tests, ← c .before .before .before .before .before .before .before .validity .ensures, ← c .before .before .before .basic .ensures, ← c .purposes .ensures)
+
+pub checks-spec : {M : Type 1} → statement M
+checks-spec =
+    tie.close
+    (tie.spec validity-requires returns basic-requires returns-2 purposes-requires returns-3)

@@ -1,0 +1,121 @@
+-- A whole run of the machine, all its moves and answers together: it decides, and its moves are bounded. Assumes nothing.
+use Prim.Native.Nat.{ℕ, suc, _+_, _*_, _≤_}
+use mathlib.Core.Path.{_≡_, refl, sym, _∙_, ap, subst}
+use mathlib.Core.List.{List, [], _∷_, _++_, append-nil}
+use native.Mathlib.Omega.{arith}
+use Rattle.refusal.specs.Refusals.{unknownIssuer}
+use Rattle.refusal.specs.Model.{worseOf}
+use Rattle.search.specs.declared.State.{State}
+use Rattle.search.specs.declared.Phase.the-variants.{Walk, Found, Refused, Spent}
+use Rattle.search.specs.Model.{World, Event, Outcome, Tree, done, accepted, refused, spent, events, run, search}
+use Rattle.search.specs.Dialogue.{give, follow, talk}
+use Rattle.search.specs.Work.{paid}
+use Rattle.search.specs.Conditions.{Certificates, Shows}
+use Rattle.search.specs.Decided.{Decided}
+use Rattle.search.specs.Machine.{left, here, phaseTree, treeOf, phaseEffort, effort, Stands, Halted, Started, Ran, begin, move, reply, begun}
+use Rattle.search.proofs.Answers.{followed, follow-more}
+use Rattle.search.proofs.Levels.{events-start, events-refused}
+use Rattle.search.proofs.Work.{all-events}
+use Rattle.search.proofs.Decided.{decided}
+
+module _ (W : World) where
+  -- ---- the start
+  module _ (end s b n : ℕ) where
+    pub starts : W .check (end ∷ []) ≡ 0 → Stands W (begun end s b n Walk) (search W end s b n) (suc (W .candidates) * suc b)
+    unfolding search phaseTree phaseEffort
+    starts h =
+        let list : events W end ≡ left W (begun end s b n Walk) = events-start W end (begun end s b n Walk .path) (begun end s b n Walk .next) h refl refl in
+        let same : paid (λ ev. 1) (events W end) b ≡ paid (λ ev. 1) (left W (begun end s b n Walk)) b = ap (λ (l : List Event). paid (λ ev. 1) l b) list in
+        record {
+          same = ap (λ (l : List Event). run W l s b n unknownIssuer) (sym list);
+          deep = omega arith;
+          most = omega (arith, all-events W end b);
+        }
+
+    pub starts-refused : (x e : ℕ) → W .check (end ∷ []) ≡ x → (x ≡ 0 → ⊥) → e ≡ worseOf unknownIssuer x → Stands W (begun end s b n (Refused e)) (search W end s b n) (suc (W .candidates) * suc b)
+    unfolding search phaseTree phaseEffort run
+    starts-refused x e h z w = record {
+      same = ap (λ (y : ℕ). done (refused y)) w ∙ ap (λ (l : List Event). run W l s b n unknownIssuer) (sym (events-refused W end x h z));
+      deep = omega arith;
+      most = omega arith;
+    }
+
+  -- ---- on and on
+  pub ran-same : {s r : State} {said : List ℕ} {moves : ℕ} → Ran W s r said moves → treeOf W r ≡ follow (treeOf W s) said
+  unfolding follow
+  ran-same begin = refl
+  ran-same (move h m) = m .same ∙ ran-same h
+  ran-same {s} (reply {said = said} a h m) = m .same ∙ ap (λ (u : Tree). give u a) (ran-same h) ∙ sym (follow-more (treeOf W s) said a)
+
+  pub ran-bound : {s r : State} {said : List ℕ} {moves : ℕ} → Ran W s r said moves → moves + effort W r ≤ effort W s
+  ran-bound begin = omega arith
+  ran-bound (move h m) = omega (arith, ran-bound h, m .less)
+  ran-bound (reply a h m) = omega (arith, ran-bound h, m .most)
+
+  -- an answer, and the walk after it
+  pub answered : (s t r : State) (a : ℕ) → Stands W t (give (treeOf W s) a) (effort W s) → Halted W t r [] (treeOf W t) (effort W t)
+      → Halted W s r (a ∷ []) (give (treeOf W s) a) (effort W s)
+  answered s t r a m h = record {
+    same = h .same ∙ m .same;
+    deep = h .deep;
+    most = omega (arith, h .most, m .most);
+    halts = h .halts;
+    ran = λ s₀ said n g.
+        let k = h .ran s₀ (said ++ (a ∷ [])) n (reply a g m) in
+        (k .0, subst (λ (l : List ℕ). Ran W s₀ r l (k .0)) (append-nil (said ++ (a ∷ []))) (k .1));
+  }
+
+  -- the start, and the walk after it
+  module _ (end s b n : ℕ) where
+    pub started : (r : State) → W .check (end ∷ []) ≡ 0 → Halted W (begun end s b n Walk) r [] (treeOf W (begun end s b n Walk)) (effort W (begun end s b n Walk))
+        → Started W end s b n r
+    started r e h =
+        let m = starts end s b n e in
+        let k = h .ran (begun end s b n Walk) [] 0 begin in
+        record {
+          same = h .same ∙ m .same;
+          deep = h .deep;
+          most = omega (arith, h .most, m .most);
+          halts = h .halts;
+          first = begun end s b n Walk;
+          begins = m;
+          moves = k .0;
+          ran = k .1;
+        }
+
+    pub started-refused : (x e : ℕ) → W .check (end ∷ []) ≡ x → (x ≡ 0 → ⊥) → e ≡ worseOf unknownIssuer x → Started W end s b n (begun end s b n (Refused e))
+    started-refused x e h z w =
+        let m = starts-refused end s b n x e h z w in
+        record {
+          same = m .same;
+          deep = m .deep;
+          most = m .most;
+          halts = λ q. let y : _≡_ {A = ℕ} 0 1 = cc in omega arith;
+          first = begun end s b n (Refused e);
+          begins = m;
+          moves = 0;
+          ran = begin;
+        }
+
+  -- ---- and the end
+  module _ (r : State) where
+    pub found-done : r .phase ≡ Found → treeOf W r ≡ done (accepted (r .anchor) (here r))
+    unfolding phaseTree
+    found-done h = ap (phaseTree W r) h
+
+    pub refused-done : (e : ℕ) → r .phase ≡ Refused e → treeOf W r ≡ done (refused e)
+    unfolding phaseTree
+    refused-done e h = ap (phaseTree W r) h
+
+    pub spent-done : (e : ℕ) → r .phase ≡ Spent e → treeOf W r ≡ done (spent e)
+    unfolding phaseTree
+    spent-done e h = ap (phaseTree W r) h
+
+  module _ (end s b n : ℕ) (s₀ r : State) (said : List ℕ) (moves : ℕ) (start : Stands W s₀ (search W end s b n) (suc (W .candidates) * suc b)) (ran : Ran W s₀ r said moves) where
+    pub few-moves : moves ≤ suc (W .candidates) * suc b
+    few-moves = omega (arith, start .most, ran-bound ran)
+
+    pub decides : (C : Certificates) → Shows C W → (q : Outcome) → treeOf W r ≡ done q → Decided C W end s b n (talk (search W end s b n) said) q
+    decides C shows q h =
+        decided C W shows end s b n (talk (search W end s b n) said) q
+        (followed (search W end s b n) said q (ap (λ (u : Tree). follow u said) (sym (start .same)) ∙ sym (ran-same ran) ∙ h))

@@ -1,0 +1,123 @@
+-- `search::walk::move_on` meets its contract. Assumes nothing.
+use Rattle.search.proofs.Moves.{over, pops, notes, tries, extends}
+use Rattle.search.specs.World.{worldOf}
+use Rattle.path.specs.Model.{checkOn}
+use lib.ListN.{length, length-map}
+use Prim.Native.Nat.{ℕ}
+use denote.Ref.{now}
+use mathlib.Core.List.{map}
+use native.Mathlib.Omega.{arith}
+use mathlib.Core.Path.{_≡_, refl, sym, ap, _∙_}
+use borrow.Author.Needs.{needs}
+use Rattle.search.proofs.walk.move_on.Statement.{statement}
+use Rattle.search.proofs.walk.move_on.Tie as tie
+
+long : (c : tie.Start) → length (c .args .s .next) ≡ 7
+long c = search needs
+
+mul-i : tie.Need-mul-i
+mul-i c = search needs
+
+array-read-i : tie.Need-array-read-i
+array-read-i c = search needs
+
+add-if1 : tie.Need-add-if1
+add-if1 c = search needs
+
+returns : tie.Need-returns
+unfolding worldOf
+returns c C B =
+    let a = c .before .before .before .before .before .before .before .before .args in
+    let p = c .before .before .before .before .before .before .before .before .pre in
+    let W = worldOf (map now (a .issuers .now)) (a .end .now) (map now (a .subjects .now)) (map now (a .keys .now)) C B (map now (a .distrusted .now)) (a .time) (a .wanted .now) (a .demanded) in
+    over W (a .s) (p .0) (p .1) (omega (arith, c .before .before .before .if1 .taken, length-map (a .subjects .now) now, length-map (a .issuers .now) now)) (c .before .before .if2 .taken)
+
+sub-t35 : tie.Need-sub-t35
+sub-t35 c = search needs
+
+returns-2 : tie.Need-returns-2
+unfolding worldOf
+returns-2 c C B =
+    let a = c .before .before .before .before .before .before .before .before .args in
+    let p = c .before .before .before .before .before .before .before .before .pre in
+    let W = worldOf (map now (a .issuers .now)) (a .end .now) (map now (a .subjects .now)) (map now (a .keys .now)) C B (map now (a .distrusted .now)) (a .time) (a .wanted .now) (a .demanded) in
+    pops W (a .s) (p .0) (p .1) (omega (arith, c .before .before .before .if1 .taken, length-map (a .subjects .now) now, length-map (a .issuers .now) now)) (c .before .before .if2 .left)
+
+add-next : tie.Need-add-next
+add-next c = search needs
+
+mul-next : tie.Need-mul-next
+mul-next c = search needs
+
+array-write-next : tie.Need-array-write-next
+array-write-next c = search needs
+
+verdict-on-requires : tie.Need-verdict-on-requires
+verdict-on-requires c κs = search needs
+
+enum-known-e : tie.Need-enum-known-e
+enum-known-e c = search needs
+
+worse-requires : tie.Need-worse-requires
+worse-requires c κs = search needs
+
+enum-told : tie.Need-enum-told
+enum-told c = search needs
+
+begin-requires : tie.Need-begin-requires
+begin-requires c κs = search needs
+
+enum-told-2 : tie.Need-enum-told-2
+enum-told-2 c = search needs
+
+extend-requires : tie.Need-extend-requires
+extend-requires c κs = search needs
+
+returns-3 : tie.Need-returns-3
+unfolding worldOf
+returns-3 c C B =
+    let a = c .before .before .before .before .before .before .before .before .before .before .before .before .before .args in
+    let p = c .before .before .before .before .before .before .before .before .before .before .before .before .before .pre in
+    let W = worldOf (map now (a .issuers .now)) (a .end .now) (map now (a .subjects .now)) (map now (a .keys .now)) C B (map now (a .distrusted .now)) (a .time) (a .wanted .now) (a .demanded) in
+    notes W (a .s) (p .0) (p .1) (omega (arith, c .before .before .before .before .before .before .before .before .if1 .left, length-map (a .subjects .now) now, length-map (a .issuers .now) now)) (long (c .before .before .before .before .before .before .before .before .before .before .before .before .before)) (c .before .before .before .before .e .given .0 .0) (c .before .before .worse .result) (c .before .before .worse .ensures) (sym (c .before .before .before .before .before .before .verdict-on .ensures) ∙ c .before .before .before .before .e .given .1)
+
+returns-4 : tie.Need-returns-4
+unfolding worldOf
+returns-4 c C B =
+    let a = c .before .before .before .before .before .before .before .before .before .before .args in
+    let p = c .before .before .before .before .before .before .before .before .before .before .pre in
+    let W = worldOf (map now (a .issuers .now)) (a .end .now) (map now (a .subjects .now)) (map now (a .keys .now)) C B (map now (a .distrusted .now)) (a .time) (a .wanted .now) (a .demanded) in
+    tries W (a .s) (p .0) (p .1) (omega (arith, c .before .before .before .before .before .if1 .left, length-map (a .subjects .now) now, length-map (a .issuers .now) now)) (long (c .before .before .before .before .before .before .before .before .before .before)) (c .begin .result) (sym (c .before .before .before .verdict-on .ensures) ∙ c .before .enum-told .given .1) (c .begin .ensures W (λ k q. refl))
+
+returns-5 : tie.Need-returns-5
+unfolding worldOf
+returns-5 c C B =
+    let a = c .before .before .before .before .before .before .before .before .before .before .args in
+    let p = c .before .before .before .before .before .before .before .before .before .before .pre in
+    let W = worldOf (map now (a .issuers .now)) (a .end .now) (map now (a .subjects .now)) (map now (a .keys .now)) C B (map now (a .distrusted .now)) (a .time) (a .wanted .now) (a .demanded) in
+    extends W (a .s) (p .0) (p .1) (omega (arith, c .before .before .before .before .before .if1 .left, length-map (a .subjects .now) now, length-map (a .issuers .now) now)) (long (c .before .before .before .before .before .before .before .before .before .before)) (c .extend .result) (sym (c .before .before .before .verdict-on .ensures) ∙ c .before .enum-told2 .given .1)
+    (c .extend .ensures W (λ q. ap (λ (n : ℕ). checkOn (map now (a .issuers .now)) (a .end .now) n (map now (a .distrusted .now)) (a .time) (a .wanted .now) (a .demanded) q) (length-map (a .subjects .now) now)))
+
+pub move-on-spec : {M : Type 1} → statement M
+move-on-spec =
+    tie.close
+    (tie.spec
+    mul-i
+    array-read-i
+    add-if1
+    returns
+    sub-t35
+    returns-2
+    add-next
+    mul-next
+    array-write-next
+    verdict-on-requires
+    enum-known-e
+    worse-requires
+    enum-told
+    begin-requires
+    enum-told-2
+    extend-requires
+    returns-3
+    returns-4
+    returns-5)

@@ -1,0 +1,190 @@
+// The walk through the candidates, up to the next question or the end.
+use crate::Phase;
+use crate::State;
+use path::candidate::Verdict;
+use path::lent::MOST_INTERMEDIATES;
+ghost use mathlib.Core.Path.{_≡_};
+ghost use mathlib.Core.List.{List, [], map};
+ghost use Prim.Native.Nat.{ℕ, _<_};
+ghost use Rattle.path.specs.Model.{checkOn};
+ghost use Rattle.search.specs.declared.Phase.the-variants.{Walk};
+ghost use Rattle.search.specs.Model.{Path, World, signatures};
+ghost use Rattle.search.specs.Machine.{treeOf, still, effort, tryTree, extendTree, extendStill, Stands, Moved, Halted};
+ghost use Rattle.search.specs.World.{worldOf};
+
+// Anchor i is tried: the first of its signatures is asked for.
+fn begin(s: State, i: usize) -> State
+    requires { ⌜ s .depth < 7 ⌝ }
+    ensures { λ r. ⌜ ((W : World) → ((k : ℕ) (p : Path) → W .stages k p ≡ signatures k p) → Stands W r (tryTree W s i) (still W s)) ⌝ }
+{
+    let signatures = s.signatures;
+    let depth = s.depth;
+    if signatures == 0 {
+        return State {
+            phase: Phase::Spent(refusal::MAXIMUM_SIGNATURE_CHECKS_EXCEEDED),
+            ..s
+        };
+    }
+    State {
+        at: depth,
+        anchor: i,
+        signatures: signatures - 1,
+        phase: Phase::Ask,
+        ..s
+    }
+}
+
+// The path is extended with candidate i, or there is a reason not to. The extension is paid for first.
+fn extend<'a>(
+    issuers: &'a [&'a [u8]],
+    end: &'a [u8],
+    anchors: usize,
+    distrusted: &[&[u8]],
+    time: u64,
+    wanted: &[u8],
+    demanded: bool,
+    s: State,
+    i: usize,
+) -> State
+    requires { ⌜ (s .depth < 7) × (s .phase ≡ Walk) ⌝ }
+    ensures { λ r. ⌜ ((W : World) → ((p : Path) → W .check p ≡ checkOn (map now (now (issuers .entry))) (now (end .entry)) anchors (map now (now (distrusted .entry))) time (now (wanted .entry)) demanded p) → Stands W r (extendTree W s i) (extendStill W s i)) ⌝ }
+{
+    let extensions = s.extensions;
+    let depth = s.depth;
+    let best = s.best;
+    if extensions == 0 {
+        return State {
+            phase: Phase::Spent(refusal::MAXIMUM_PATH_BUILD_CALLS_EXCEEDED),
+            ..s
+        };
+    }
+    if depth == MOST_INTERMEDIATES {
+        let b = refusal::worse(best, refusal::MAXIMUM_PATH_DEPTH_EXCEEDED);
+        return State {
+            extensions: extensions - 1,
+            best: b,
+            ..s
+        };
+    }
+    let mut numbers = s.path;
+    let mut next = s.next;
+    numbers[depth + 1] = i;
+    let e = path::check(
+        issuers,
+        end,
+        anchors,
+        distrusted,
+        time,
+        wanted,
+        demanded,
+        numbers,
+        depth + 1,
+    );
+    if e != 0 {
+        let b = refusal::worse(best, e);
+        return State {
+            extensions: extensions - 1,
+            best: b,
+            ..s
+        };
+    }
+    next[depth + 1] = 0;
+    State {
+        path: numbers,
+        next,
+        depth: depth + 1,
+        extensions: extensions - 1,
+        ..s
+    }
+}
+
+// One move: a level is left, or its next candidate is looked at.
+fn move_on<'a>(
+    issuers: &'a [&'a [u8]],
+    end: &'a [u8],
+    subjects: &[&[u8]],
+    keys: &[&[u8]],
+    distrusted: &[&[u8]],
+    time: u64,
+    wanted: &[u8],
+    demanded: bool,
+    s: State,
+) -> State
+    requires { ⌜ (s .depth < 7) × (s .phase ≡ Walk) ⌝ }
+    ensures { λ r. ⌜ ((C : List (List ℕ)) (B : List ℕ) → Moved (worldOf (map now (now (issuers .entry))) (now (end .entry)) (map now (now (subjects .entry))) (map now (now (keys .entry))) C B (map now (now (distrusted .entry))) time (now (wanted .entry)) demanded) s r) ⌝ }
+{
+    let depth = s.depth;
+    let best = s.best;
+    let numbers = s.path;
+    let mut next = s.next;
+    let i = next[depth];
+    let anchors = subjects.len();
+    if anchors + issuers.len() <= i {
+        if depth == 0 {
+            return State {
+                phase: Phase::Refused(best),
+                ..s
+            };
+        }
+        return State {
+            depth: depth - 1,
+            ..s
+        };
+    }
+    next[depth] = i + 1;
+    let t = State { next, ..s };
+    match path::candidate::verdict_on(issuers, end, subjects, keys, distrusted, numbers, depth, i) {
+        Verdict::Pass(e) => {
+            let b = refusal::worse(best, e);
+            State { best: b, ..t }
+        }
+        Verdict::Anchor => begin(t, i),
+        Verdict::Extend => extend(
+            issuers,
+            end,
+            anchors,
+            distrusted,
+            time,
+            wanted,
+            demanded,
+            t,
+            i,
+        ),
+    }
+}
+
+// On to the next question or to the end.
+pub fn advance<'a>(
+    issuers: &'a [&'a [u8]],
+    end: &'a [u8],
+    subjects: &[&[u8]],
+    keys: &[&[u8]],
+    distrusted: &[&[u8]],
+    time: u64,
+    wanted: &[u8],
+    demanded: bool,
+    s: State,
+) -> State
+    requires { ⌜ s .depth < 7 ⌝ }
+    ensures { λ r. ⌜ ((C : List (List ℕ)) (B : List ℕ) → Halted (worldOf (map now (now (issuers .entry))) (now (end .entry)) (map now (now (subjects .entry))) (map now (now (keys .entry))) C B (map now (now (distrusted .entry))) time (now (wanted .entry)) demanded) s r [] (treeOf (worldOf (map now (now (issuers .entry))) (now (end .entry)) (map now (now (subjects .entry))) (map now (now (keys .entry))) C B (map now (now (distrusted .entry))) time (now (wanted .entry)) demanded) s) (effort (worldOf (map now (now (issuers .entry))) (now (end .entry)) (map now (now (subjects .entry))) (map now (now (keys .entry))) C B (map now (now (distrusted .entry))) time (now (wanted .entry)) demanded) s)) ⌝ }
+{
+    let mut t = s;
+    loop {
+        let ph = t.phase;
+        if let Phase::Walk = ph {
+            t = move_on(
+                issuers,
+                end,
+                subjects,
+                keys,
+                distrusted,
+                time,
+                wanted,
+                demanded,
+                t,
+            );
+        } else {
+            return t;
+        }
+    }
+}

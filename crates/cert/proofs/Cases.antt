@@ -8,9 +8,10 @@ use borrow.Author.Tests.{eq-eqb, ne-eqb}
 use Rattle.refusal.specs.Refusals.{badDer, trailingSignedData, trailingCertificateExtensions, trailingExtension, unsupportedCertVersion, unsupportedCriticalExtension}
 use Rattle.der.specs.declared.Span.{Span}
 use Rattle.der.specs.declared.Got.the-variants.{Content}
-use Rattle.der.specs.declared.small.Truth.the-variants.{Is as Said}
-use Rattle.der.specs.declared.small.Small.the-variants.{Number}
-use Rattle.der.specs.Model.{expectAt, onContent, bitsAt, readSmall, readBool, sameParts}
+use Rattle.values.specs.declared.small.Truth.the-variants.{Is as Said}
+use Rattle.values.specs.declared.small.Small.the-variants.{Number}
+use Rattle.der.specs.Model.{expectAt, onContent, sameParts}
+use Rattle.values.specs.Model.{bitsAt, readSmall, readBool}
 use Rattle.cert.specs.declared.Reading.the-variants.{Accepted}
 use Rattle.cert.specs.declared.Envelope.{Envelope}
 use Rattle.cert.specs.declared.Opened.the-variants.{Parts}

@@ -12,11 +12,12 @@ use Rattle.refusal.specs.Refusals.{badDer, trailingSignedData, trailingCertific
 use Rattle.der.specs.declared.Span.{Span}
 use Rattle.der.specs.declared.Got.{Got}
 use Rattle.der.specs.declared.Got.the-variants.{Content, Refused as NoContent}
-use Rattle.der.specs.declared.small.Truth.{Truth}
-use Rattle.der.specs.declared.small.Truth.the-variants.{Is as Said, Refused as NoTruth}
-use Rattle.der.specs.declared.small.Small.{Small}
-use Rattle.der.specs.declared.small.Small.the-variants.{Number, Refused as NoNumber}
-use Rattle.der.specs.Model.{expectAt, onContent, bitsAt, readSmall, readBool, sameParts}
+use Rattle.values.specs.declared.small.Truth.{Truth}
+use Rattle.values.specs.declared.small.Truth.the-variants.{Is as Said, Refused as NoTruth}
+use Rattle.values.specs.declared.small.Small.{Small}
+use Rattle.values.specs.declared.small.Small.the-variants.{Number, Refused as NoNumber}
+use Rattle.der.specs.Model.{expectAt, onContent, sameParts}
+use Rattle.values.specs.Model.{bitsAt, readSmall, readBool}
 use Rattle.der.proofs.Invert.{peel, either}
 use Rattle.cert.specs.declared.Certificate.{Certificate}
 use Rattle.cert.specs.declared.Reading.the-variants.{Accepted, Refused}
@@ -105,8 +106,33 @@ not-next e h = let z : _≡_ {A = ℕ} 0 1 = cc in omega arith
 pub not-accepted : {c : Certificate} (e : ℕ) → Refused e ≡ Accepted c → ⊥
 not-accepted e h = let z : _≡_ {A = ℕ} 0 1 = cc in omega arith
 
+-- what an acceptance holds is one thing
 accepted-is : {c d : Certificate} → Accepted c ≡ Accepted d → d ≡ c
 accepted-is e = cc
+
+parts-is : {v w : Envelope} → Parts v ≡ Parts w → v ≡ w
+parts-is e = cc
+
+content-is : {p q : Span} → Content p ≡ Content q → p ≡ q
+content-is e = cc
+
+with-is : {b c : Beginning} → With b ≡ With c → b ≡ c
+with-is e = cc
+
+fields-is : {f g : Fields} → AllFields f ≡ AllFields g → f ≡ g
+fields-is e = cc
+
+parsed-is : {x y : Extension} → Is x ≡ Is y → x ≡ y
+parsed-is e = cc
+
+kept-is : {k l : Known} → All k ≡ All l → k ≡ l
+kept-is e = cc
+
+next-is : {a b : ℕ} {k l : Known} → Next a k ≡ Next b l → (a ≡ b) × (k ≡ l)
+next-is e = (cc, cc)
+
+key-is : {p q a b : Span} → KeyParts p q ≡ KeyParts a b → (p ≡ a) × (q ≡ b)
+key-is e = (cc, cc)
 
 pub not-key : {p q : Span} (e : ℕ) → NoKey e ≡ KeyParts p q → ⊥
 not-key e h = let z : _≡_ {A = ℕ} 0 1 = cc in omega arith
@@ -126,7 +152,7 @@ parts-inv s from to v e =
     let q = on-content (expectAt s (p .0 .end) to 48 badDer) NotOpened _ (p .2) not-opened in
     let r = on-content (bitsAt s (q .0 .end) to) NotOpened _ (q .2) not-opened in
     let t = chosen (eqb (r .0 .end) to) (r .2) (not-opened _) in
-    let z : _≡_ {A = Envelope} (record { signed = span from (p .0 .end); content = p .0; algorithm = q .0; signature = r .0 }) v = cc (t .1) in
+    let z : _≡_ {A = Envelope} (record { signed = span from (p .0 .end); content = p .0; algorithm = q .0; signature = r .0 }) v = parts-is (t .1) in
     rw (← z)
     (record {
       signed = refl;
@@ -168,7 +194,7 @@ unfolding isVersion
 is-version s from to q p f (Number value next) h e =
     let t = chosen (eqb value 2) e (not-content _) in
     let u = chosen (eqb next (q .end)) (t .1) (not-content _) in
-    let z : q ≡ p = cc (u .1) in
+    let z : q ≡ p = content-is (u .1) in
     let two : value ≡ 2 = eqb-true _ _ (t .0) in
     record {
       next = next;
@@ -198,7 +224,7 @@ begun-inv s from to outer b e =
     let q = on-content (expectAt s (p .0 .end) to 2 badDer) NotBegun _ (p .2) not-begun in
     let r = on-content (expectAt s (q .0 .end) to 48 badDer) NotBegun _ (q .2) not-begun in
     let t = chosen (sameParts s (r .0 .start) (r .0 .end) s (outer .start) (outer .end)) (r .2) (not-begun _) in
-    let z : _≡_ {A = Beginning} (record { serial = q .0; algorithm = r .0 }) b = cc (t .1) in
+    let z : _≡_ {A = Beginning} (record { serial = q .0; algorithm = r .0 }) b = with-is (t .1) in
     rw (← z)
     (record {
       place = p .0;
@@ -221,7 +247,7 @@ fields-inv s from to f e =
     let q = on-content (expectAt s (p .0 .end) to 48 badDer) NotFound _ (p .2) not-found in
     let r = on-content (expectAt s (q .0 .end) to 48 badDer) NotFound _ (q .2) not-found in
     let t = on-content (expectAt s (r .0 .end) to 48 badDer) NotFound _ (r .2) not-found in
-    let z : _≡_ {A = Fields} (record { issuer = p .0; validity = q .0; subject = r .0; key = t .0 }) f = cc (t .2) in
+    let z : _≡_ {A = Fields} (record { issuer = p .0; validity = q .0; subject = r .0; key = t .0 }) f = fields-is (t .2) in
     rw (← z) (record { issuer = p .1; validity = q .1; subject = r .1; key = t .1 })
 
 -- ---- extensions
@@ -237,7 +263,7 @@ extension-inv s from to x e =
     let p = on-content (expectAt s from to 6 badDer) NotParsed _ e not-parsed in
     let q = on-truth (readBool s (p .0 .end) to) NotParsed _ (p .2) not-parsed in
     let r = on-content (expectAt s (q .1) to 4 badDer) NotParsed _ (q .3) not-parsed in
-    let z : _≡_ {A = Extension} (record { identifier = p .0; critical = q .0; value = r .0 }) x = cc (r .2) in
+    let z : _≡_ {A = Extension} (record { identifier = p .0; critical = q .0; value = r .0 }) x = parsed-is (r .2) in
     rw (← z) (record { next = q .1; identifier = p .1; critical = q .2; value = r .1 })
 
 pub record TakenAs (s : List ℕ) (at to : ℕ) (known : Known) (strict : Bool) (at′ : ℕ) (now : Known) : Type 0 where
@@ -256,16 +282,15 @@ taken-inv s at to known strict at′ now e =
     let q = on-parsed (extensionIn s (p .0 .start) (p .0 .end)) Stop _ (p .2) not-next in
     let r = on-kept (remembered s (q .0) known strict) Stop _ (q .2) not-next in
     let t = chosen (eqb (q .0 .value .end) (p .0 .end)) (r .2) (not-next _) in
-    let k : r .0 ≡ now = cc (t .1) in
-    let n : p .0 .end ≡ at′ = cc (t .1) in
+    let n = next-is (t .1) in
     record {
       whole = p .0;
       x = q .0;
       outer = p .1;
       inner = extension-inv s (p .0 .start) (p .0 .end) (q .0) (q .1);
-      kept = r .1 ∙ ap All k;
+      kept = r .1 ∙ ap All (n .1);
       all = eqb-true _ _ (t .0);
-      next = sym n;
+      next = sym (n .0);
     }
 
 -- an extension that is not known, or one that has its slot to itself
@@ -307,7 +332,7 @@ remembered-inv s x known strict now e =
       some = eqb-false _ _ (p .0);
       free = q .0;
       found = r .1;
-      set = cc (r .2);
+      set = sym (kept-is (r .2));
     }))
     (either (eqb kind 0) e)
 
@@ -316,11 +341,11 @@ pub content-inv : (s : List ℕ) (kind : ℕ) (value p : Span) → contentOf s k
 unfolding contentOf
 content-inv s kind value p e =
     ⊎-elim
-    (λ h. inl (eqb-true _ _ (h .0), cc (h .1)))
+    (λ h. inl (eqb-true _ _ (h .0), sym (content-is (h .1))))
     (λ h.
     let q = on-content (expectAt s (value .start) (value .end) 48 badDer) NoContent _ (h .1) not-content in
     let t = chosen (eqb (q .0 .end) (value .end)) (q .2) (not-content _) in
-    let z : q .0 ≡ p = cc (t .1) in
+    let z : q .0 ≡ p = content-is (t .1) in
     let w : q .0 .end ≡ value .end = eqb-true _ _ (t .0) in
     inr (eqb-false _ _ (h .0), q .1 ∙ ap Content z, sym (ap (λ (x : Span). x .end) z) ∙ w))
     (either (eqb kind 15) e)
@@ -339,7 +364,7 @@ pub extensions-inv : (s : List ℕ) (from to : ℕ) (strict : Bool) (known : Kno
 unfolding extensionsAt
 extensions-inv s from to strict known e =
     ⊎-elim
-    (λ h. inl (eqb-true _ _ (h .0), cc (h .1)))
+    (λ h. inl (eqb-true _ _ (h .0), sym (kept-is (h .1))))
     (λ h.
     let p = on-content (expectAt s from to 163 trailingCertificateExtensions) NotKept _ (h .1) not-kept in
     let q = on-content (expectAt s (p .0 .start) (p .0 .end) 48 trailingExtension) NotKept _ (p .2) not-kept in
@@ -411,10 +436,9 @@ key-inv s from to p q e =
     let a = on-content (expectAt s from to 48 badDer) NoKey _ e not-key in
     let b = on-content (bitsAt s (a .0 .end) to) NoKey _ (a .2) not-key in
     let t = chosen (eqb (b .0 .end) to) (b .2) (not-key _) in
-    let y : a .0 ≡ p = cc (t .1) in
-    let z : b .0 ≡ q = cc (t .1) in
+    let k = key-is (t .1) in
     record {
-      algorithm = a .1 ∙ ap Content y;
-      bits = sym (ap (λ (x : Span). bitsAt s (x .end) to) y) ∙ b .1 ∙ ap Content z;
-      all = sym (ap (λ (x : Span). x .end) z) ∙ eqb-true _ _ (t .0);
+      algorithm = a .1 ∙ ap Content (k .0);
+      bits = sym (ap (λ (x : Span). bitsAt s (x .end) to) (k .0)) ∙ b .1 ∙ ap Content (k .1);
+      all = sym (ap (λ (x : Span). x .end) (k .1)) ∙ eqb-true _ _ (t .0);
     }

@@ -11,15 +11,16 @@ use native.Mathlib.Omega.{arith}
 use Rattle.refusal.specs.Refusals.{unsupportedCertVersion, badDer}
 use Rattle.der.specs.declared.Span.{Span}
 use Rattle.der.specs.declared.Got.the-variants.{Content}
-use Rattle.der.specs.declared.small.Small.the-variants.{Number}
-use Rattle.der.specs.declared.small.Truth.the-variants.{Is as Said}
+use Rattle.values.specs.declared.small.Small.the-variants.{Number}
+use Rattle.values.specs.declared.small.Truth.the-variants.{Is as Said}
 use Rattle.der.specs.Places.{Bytes, part}
 use Rattle.der.specs.X690.{encoding, lengthBytes, truth, Natural, valueOf}
-use Rattle.der.specs.Model.{LIMIT, expectAt, onContent, bitsAt, positiveIn, nonnegative, smallIn, readSmall, readBool}
+use Rattle.der.specs.Model.{LIMIT, expectAt, onContent}
+use Rattle.values.specs.Model.{bitsAt, positiveIn, nonnegative, smallIn, readSmall, readBool}
 use Rattle.der.proofs.Laws.{tests}
 use Rattle.der.proofs.Parts.{part-length, part-cons, part-none, part-front}
-use Rattle.der.proofs.SmallValues.{There, true-is, false-is, is-bool, absent-bool, natural-one, small-is}
-use Rattle.der.proofs.BitStrings.{bits-is, is-bits}
+use Rattle.values.proofs.SmallValues.{There, true-is, false-is, is-bool, absent-bool, natural-one, small-is}
+use Rattle.values.proofs.BitStrings.{bits-is, is-bits}
 use Rattle.cert.specs.Model.{versionAt}
 use Rattle.cert.specs.Rfc5280.{bitString, boolean, integer, explicit, version, octetString, Criticality, unwritten, written, isCritical, criticality}
 use Rattle.cert.specs.Layout.{placeOf, bitsOf}

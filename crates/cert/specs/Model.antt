@@ -8,11 +8,12 @@ use Rattle.refusal.specs.Refusals.{badDer, trailingSignedData, trailingCertific
 use Rattle.der.specs.declared.Span.{Span}
 use Rattle.der.specs.declared.Got.{Got}
 use Rattle.der.specs.declared.Got.the-variants.{Content, Refused as NoContent}
-use Rattle.der.specs.declared.small.Truth.{Truth}
-use Rattle.der.specs.declared.small.Truth.the-variants.{Is as Said, Refused as NoTruth}
-use Rattle.der.specs.declared.small.Small.{Small}
-use Rattle.der.specs.declared.small.Small.the-variants.{Number, Refused as NoNumber}
-use Rattle.der.specs.Model.{expectAt, onContent, bitsAt, readSmall, readBool, sameParts}
+use Rattle.values.specs.declared.small.Truth.{Truth}
+use Rattle.values.specs.declared.small.Truth.the-variants.{Is as Said, Refused as NoTruth}
+use Rattle.values.specs.declared.small.Small.{Small}
+use Rattle.values.specs.declared.small.Small.the-variants.{Number, Refused as NoNumber}
+use Rattle.der.specs.Model.{expectAt, onContent, sameParts}
+use Rattle.values.specs.Model.{bitsAt, readSmall, readBool}
 use Rattle.der.specs.Loop.{walk}
 use Rattle.cert.specs.declared.Reading.{Reading}
 use Rattle.cert.specs.declared.Reading.the-variants.{Accepted, Refused}

@@ -1,10 +1,10 @@
 // One certificate: where each of its fields lies in its bytes, or why it is refused.
 use der::Got;
 use der::Span;
-use der::small::Small;
 use extensions::Kept;
 use extensions::Known;
 use extensions::Slot;
+use values::small::Small;
 ghost use mathlib.Core.Path.{_≡_};
 ghost use Rattle.cert.specs.Model.{partsIn, opened, versionAt, begun, fieldsAt, readCertificate, readAnchor};
 
@@ -91,7 +91,7 @@ fn parts_in(s: &[u8], from: usize, to: usize) -> Opened
         Got::Content(p) => p,
         Got::Refused(e) => return Opened::Refused(e),
     };
-    let signature = match der::bits::bits_at(s, algorithm.end, to) {
+    let signature = match values::bits::bits_at(s, algorithm.end, to) {
         Got::Content(p) => p,
         Got::Refused(e) => return Opened::Refused(e),
     };
@@ -134,7 +134,7 @@ fn version_at(s: &[u8], from: usize, to: usize) -> Got
         Got::Content(p) => p,
         Got::Refused(e) => return Got::Refused(e),
     };
-    match der::small::read_small(s, version.start, version.end) {
+    match values::small::read_small(s, version.start, version.end) {
         Small::Number { value, next } => {
             if value != 2 {
                 return Got::Refused(refusal::UNSUPPORTED_CERT_VERSION);

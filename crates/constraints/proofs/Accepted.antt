@@ -16,8 +16,8 @@ use Rattle.der.proofs.Laid.{expect-laid}
 use Rattle.der.proofs.Parts.{part-split, part-at}
 use Rattle.der.proofs.Laws.{lt-or-le}
 use Rattle.der.proofs.Invert.{either}
-use Rattle.names.specs.declared.Answer.{Answer}
-use Rattle.names.specs.declared.Answer.the-variants.{Yes, No, Refused}
+use Rattle.dns.specs.declared.Answer.{Answer}
+use Rattle.dns.specs.declared.Answer.the-variants.{Yes, No, Refused}
 use Rattle.names.specs.General.{General, Named, Each}
 use Rattle.names.proofs.Rows.{named-at}
 use Rattle.constraints.specs.declared.entries.Base.the-variants.{Is}

@@ -9,12 +9,13 @@ use native.Mathlib.Omega.{arith}
 use borrow.Author.Tests.{eqb-true, eqb-false}
 use Rattle.refusal.specs.Refusals.{nameConstraintViolation}
 use Rattle.der.specs.Places.{Bytes}
-use Rattle.names.specs.declared.Answer.{Answer}
-use Rattle.names.specs.declared.Answer.the-variants.{Yes, No, Refused}
-use Rattle.names.specs.Names.{presentedName}
+use Rattle.dns.specs.declared.Answer.{Answer}
+use Rattle.dns.specs.declared.Answer.the-variants.{Yes, No, Refused}
+use Rattle.dns.specs.Names.{presentedName}
 use Rattle.names.specs.General.{General}
-use Rattle.names.specs.Model.{matchPermitted, matchExcluded, matchSubnet}
-use Rattle.names.proofs.Match.{permitted-all, excluded-none, presented-refused}
+use Rattle.dns.specs.Model.{matchPermitted, matchExcluded}
+use Rattle.names.specs.Model.{matchSubnet}
+use Rattle.dns.proofs.Match.{permitted-all, excluded-none, presented-refused}
 use Rattle.names.proofs.Subnet.{subnet-yes, subnet-no}
 use Rattle.constraints.specs.Rfc5280Names.{Meaning, host, value, Means, Others, In}
 use Rattle.constraints.specs.Model.{compared}

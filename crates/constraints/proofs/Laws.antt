@@ -19,8 +19,8 @@ use Rattle.der.proofs.Laws.{expect-value}
 use Rattle.der.proofs.Theorems.{value-places}
 use Rattle.der.proofs.Invert.{either}
 use Rattle.cert.proofs.Inversion.{on-content, chosen}
-use Rattle.names.specs.declared.Answer.{Answer}
-use Rattle.names.specs.declared.Answer.the-variants.{Yes, No, Refused as NoAnswer}
+use Rattle.dns.specs.declared.Answer.{Answer}
+use Rattle.dns.specs.declared.Answer.the-variants.{Yes, No, Refused as NoAnswer}
 use Rattle.names.specs.declared.general.Name.{Name}
 use Rattle.names.specs.declared.general.Name.the-variants.{Found, Refused as NoName}
 use Rattle.names.specs.Model.{generalName}

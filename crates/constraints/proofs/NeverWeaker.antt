@@ -25,7 +25,7 @@ use Rattle.cert.specs.declared.Reading.{Reading}
 use Rattle.cert.specs.declared.Reading.the-variants.{Accepted, Refused as NotRead}
 use Rattle.cert.specs.Model.{readCertificate}
 use Rattle.cert.proofs.Inversion.{on-content}
-use Rattle.names.specs.declared.Answer.the-variants.{Yes, No}
+use Rattle.dns.specs.declared.Answer.the-variants.{Yes, No}
 use Rattle.names.specs.declared.general.Name.{Name}
 use Rattle.names.specs.declared.general.Name.the-variants.{Found, Refused as NoName}
 use Rattle.names.specs.General.{General, Named, encoded, Each}

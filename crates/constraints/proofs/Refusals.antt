@@ -13,13 +13,14 @@ use Rattle.der.specs.declared.Got.{Got}
 use Rattle.der.specs.declared.Got.the-variants.{Content, Refused as NoContent}
 use Rattle.der.specs.Model.{readValue, ofTag, expectAt, onContent}
 use Rattle.der.specs.Places.{part}
-use Rattle.names.specs.declared.Answer.{Answer}
-use Rattle.names.specs.declared.Answer.the-variants.{Yes, No, Refused}
+use Rattle.dns.specs.declared.Answer.{Answer}
+use Rattle.dns.specs.declared.Answer.the-variants.{Yes, No, Refused}
 use Rattle.names.specs.declared.general.Name.{Name}
 use Rattle.names.specs.declared.general.Name.the-variants.{Found, Refused as NoName}
 use Rattle.names.specs.declared.ip.Masked.{Masked}
 use Rattle.names.specs.declared.ip.Masked.the-variants.{Same, Differs, Broken}
-use Rattle.names.specs.Model.{isKind, ofKind, generalName, validPresented, validEntry, inSubtree, meetsSubtree, yesIf, matchPermitted, matchExcluded, neither, maskedByte, onMasked, subnetFrom, matchSubnet}
+use Rattle.dns.specs.Model.{validPresented, validEntry, inSubtree, meetsSubtree, yesIf, matchPermitted, matchExcluded}
+use Rattle.names.specs.Model.{isKind, ofKind, generalName, neither, maskedByte, onMasked, subnetFrom, matchSubnet}
 use Rattle.constraints.specs.declared.Lists.{Lists}
 use Rattle.constraints.specs.declared.Lists.the-variants.{Are, Refused as NoLists}
 use Rattle.constraints.specs.declared.entries.Base.{Base}

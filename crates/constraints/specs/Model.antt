@@ -14,12 +14,13 @@ use Rattle.cert.specs.declared.Certificate.{Certificate}
 use Rattle.cert.specs.declared.Reading.{Reading}
 use Rattle.cert.specs.declared.Reading.the-variants.{Accepted, Refused as NotRead}
 use Rattle.cert.specs.Model.{readCertificate}
-use Rattle.names.specs.declared.Answer.{Answer}
-use Rattle.names.specs.declared.Answer.the-variants.{Yes, No, Refused as NoAnswer}
+use Rattle.dns.specs.declared.Answer.{Answer}
+use Rattle.dns.specs.declared.Answer.the-variants.{Yes, No, Refused as NoAnswer}
 use Rattle.names.specs.declared.general.Name.{Name}
 use Rattle.names.specs.declared.general.Name.the-variants.{Found, Refused as NoName}
 use Rattle.names.specs.General.{dnsName, ipAddress}
-use Rattle.names.specs.Model.{generalName, matchPermitted, matchExcluded, matchSubnet}
+use Rattle.dns.specs.Model.{matchPermitted, matchExcluded}
+use Rattle.names.specs.Model.{generalName, matchSubnet}
 use Rattle.constraints.specs.declared.Subtrees.{Subtrees}
 use Rattle.constraints.specs.declared.Lists.{Lists}
 use Rattle.constraints.specs.declared.Lists.the-variants.{Are, Refused as NoLists}

@@ -5,7 +5,7 @@ use mathlib.Core.List.{List, [], _∷_, _++_}
 use mathlib.Core.Bool.{true}
 use mathlib.Core.Logic.{_⊎_}
 use Rattle.der.specs.X690.{encoding}
-use Rattle.names.specs.Names.{Labels, labels, presentedName, StandsFor, InSubtree}
+use Rattle.dns.specs.Names.{Labels, labels, presentedName, StandsFor, InSubtree}
 use Rattle.names.specs.General.{dnsName, ipAddress, General, Named, Each}
 use Rattle.names.specs.Addresses.{InSubnet}
 

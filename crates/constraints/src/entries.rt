@@ -1,8 +1,7 @@
 // The entries of one list of subtrees, RFC 5280, 4.2.1.10, against one name.
 use crate::Spent;
 use der::Got;
-use names::Answer;
-use names::dns;
+use dns::Answer;
 use names::general;
 use names::general::Name;
 use names::ip;

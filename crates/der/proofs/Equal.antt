@@ -1,5 +1,5 @@
 -- Laws of `sameList` and `sameParts`: equality of two parts, and the loop that tests it. Assumes nothing.
-use Prim.Native.Nat.{ℕ, zero, suc, _+_, _-_, _≤_, _<_}
+use Prim.Native.Nat.{ℕ, suc, _+_, _-_, _≤_, _<_}
 use mathlib.Core.Path.{_≡_, refl, sym, ap, _∙_}
 use mathlib.Core.List.{List, [], _∷_}
 use mathlib.Core.Bool.{Bool, true, false, cond}
@@ -10,7 +10,7 @@ use native.Mathlib.Nat.{add-zero, add-assoc}
 use borrow.Author.Tests.{eq-eqb, eqb-true, ltb-false}
 use Rattle.der.specs.Places.{part}
 use Rattle.der.specs.Model.{sameList, sameParts}
-use Rattle.der.proofs.Laws.{tests}
+use Rattle.der.proofs.Laws.{tests, in-part}
 use Rattle.der.proofs.Invert.{peel}
 use Rattle.der.proofs.Parts.{part-length, part-cons, part-none}
 
@@ -53,25 +53,32 @@ same-refl [] = refl
 same-refl (x ∷ xs) = rw (eq-eqb x x refl) (same-refl xs)
 
 -- ---- a turn of the loop that compares two parts
-module _ (s : List ℕ) (a b : ℕ) (t : List ℕ) (c d i : ℕ) (h : a + i < b) (hs : b ≤ length s) (k : c + i < d) (kt : d ≤ length t) where
+-- the same place of another part, of the same size
+pub in-other : (a b c d i : ℕ) → i < b - a → b - a ≡ d - c → c + i < d
+in-other a b c d i l e = omega arith
+
+module _ (s : List ℕ) (a b : ℕ) (t : List ℕ) (c d i : ℕ) (l : i < b - a) (e : b - a ≡ d - c) (hs : b ≤ length s) (kt : d ≤ length t) where
   pub same-turn : getD s (a + i) 0 ≡ getD t (c + i) 0 → sameList (part s (a + (i + 1)) b) (part t (c + (i + 1)) d) ≡ sameList (part s (a + i) b) (part t (c + i) d)
-  same-turn e =
-      let p : part s (a + i) b ≡ getD s (a + i) 0 ∷ part s (a + i + 1) b = part-cons s (a + i) b h (omega arith) in
-      let q : part t (c + i) d ≡ getD t (c + i) 0 ∷ part t (c + i + 1) d = part-cons t (c + i) d k (omega arith) in
-      rw (p, q, same-cons _ _ _ _ e, add-assoc, add-assoc)
+  same-turn w =
+      let p : part s (a + i) b ≡ getD s (a + i) 0 ∷ part s (a + i + 1) b = part-cons s (a + i) b (in-part a b i l) (omega arith) in
+      let q : part t (c + i) d ≡ getD t (c + i) 0 ∷ part t (c + i + 1) d = part-cons t (c + i) d (in-other a b c d i l e) (omega arith) in
+      rw (p, q, same-cons _ _ _ _ w, add-assoc, add-assoc)
 
   pub same-differ : (getD s (a + i) 0 ≡ getD t (c + i) 0 → ⊥) → sameList (part s (a + i) b) (part t (c + i) d) ≡ false
-  same-differ e =
-      let p : part s (a + i) b ≡ getD s (a + i) 0 ∷ part s (a + i + 1) b = part-cons s (a + i) b h (omega arith) in
-      let q : part t (c + i) d ≡ getD t (c + i) 0 ∷ part t (c + i + 1) d = part-cons t (c + i) d k (omega arith) in
-      rw (p, q, same-not _ _ _ _ e)
+  same-differ w =
+      let p : part s (a + i) b ≡ getD s (a + i) 0 ∷ part s (a + i + 1) b = part-cons s (a + i) b (in-part a b i l) (omega arith) in
+      let q : part t (c + i) d ≡ getD t (c + i) 0 ∷ part t (c + i + 1) d = part-cons t (c + i) d (in-other a b c d i l e) (omega arith) in
+      rw (p, q, same-not _ _ _ _ w)
 
 pub same-start : (s : List ℕ) (a b : ℕ) (t : List ℕ) (c d : ℕ) → sameList (part s (a + 0) b) (part t (c + 0) d) ≡ sameList (part s a b) (part t c d)
 same-start s a b t c d = simp add-zero
 
-pub same-end : (s : List ℕ) (a b : ℕ) (t : List ℕ) (c d i : ℕ) → a + i ≡ b → c + i ≡ d → sameList (part s (a + i) b) (part t (c + i) d) ≡ true
+pub same-end : (s : List ℕ) (a b : ℕ) (t : List ℕ) (c d i : ℕ) → a ≤ b → c ≤ d → b - a ≡ d - c → i ≤ b - a → b - a ≤ i → sameList (part s (a + i) b) (part t (c + i) d) ≡ true
 unfolding sameList
-same-end s a b t c d i h k = rw (h, k, part-none, part-none)
+same-end s a b t c d i h k e m l =
+    let p : a + i ≡ b = omega arith in
+    let q : c + i ≡ d = omega arith in
+    rw (p, q, part-none, part-none)
 
 pub same-short : (s : List ℕ) (a b : ℕ) (t : List ℕ) (c d : ℕ) → b ≤ length s → d ≤ length t → (b - a ≡ d - c → ⊥) → sameList (part s a b) (part t c d) ≡ false
 same-short s a b t c d h k n = same-length (part s a b) (part t c d) (λ q. n (sym (part-length s a b h) ∙ q ∙ part-length t c d k))

@@ -30,6 +30,13 @@ lt-or-le a b = go (ltb a b) refl
     go true e = inl (ltb-true a b e)
     go false e = inr (ltb-false a b e)
 
+-- a place of a part, and what is left of a part after one place more
+pub in-part : (a b i : ℕ) → i < b - a → a + i < b
+in-part a b i h = omega arith
+
+pub left-falls : (n i : ℕ) → i < n → n - (i + 1) < n - i
+left-falls n i h = omega arith
+
 -- k bytes are a number below 256 ^ k
 pub number-below : (s : List ℕ) → Bytes s → (at k : ℕ) → numberAt s at k < 256 ^ k
 unfolding numberAt
@@ -80,6 +87,16 @@ first-none s at to b h n₁ n₂ n₃ n₄ =
     (λ (l : 129 ≤ b). let m : 133 ≤ b = omega arith in search tests)
     (lt-or-le b 129)
 
+-- a length of the long form is read as its first byte says
+pub length-long : (s : List ℕ) (at to k : ℕ) → to ≤ length s → at < to → getD s at 0 ≡ 128 + k → 0 < k → k ≤ 4 → readLength s at to ≡ longForm s at to k
+unfolding readLength byFirst
+length-long s at to k a b e p q =
+    let low : 129 ≤ 128 + k = omega arith in
+    let high : 128 + k < 133 = omega arith in
+    let short : 128 ≤ 128 + k = omega arith in
+    let is : 128 + k - 128 ≡ k = omega arith in
+    search (tests, e, is)
+
 -- ---- powers of two below 256
 pub power-below : (k : ℕ) → k < 8 → (0 < 2 ^ k) × (2 ^ k < 256)
 power-below k h = let high : 2 ^ k ≤ 2 ^ 7 = pow-mono {i = k} {j = 7} (omega arith) in (pow-pos k, omega arith)
@@ -87,11 +104,24 @@ power-below k h = let high : 2 ^ k ≤ 2 ^ 7 = pow-mono {i = k} {j = 7} (omega a
 pub one-shifted : (k : ℕ) → k < 8 → (1 * 2 ^ k) % 256 ≡ 2 ^ k
 one-shifted k h = let p = power-below k h in omega arith
 
--- ---- the one way to an accepted value
-pub limited-value : (s : List ℕ) (from to limit len next : ℕ) → to ≤ length s → from < to → highTag (getD s from 0) ≡ false → readLength s (from + 1) to ≡ Is len next → len < limit → len ≤ to - next
-    → readLimited s from to limit ≡ Value (getD s from 0) next (next + len)
-unfolding readLimited withLength
-limited-value s from to limit len next a b h l c d = search (tests, h, l)
+-- ---- the one way to an accepted value, and the ways to a refusal once a length was looked for
+module _ (s : List ℕ) (from to limit : ℕ) where
+  module _ (len next : ℕ) (a : to ≤ length s) (b : from < to) (h : highTag (getD s from 0) ≡ false) (l : readLength s (from + 1) to ≡ Is len next) where
+    pub limited-value : len < limit → len ≤ to - next → readLimited s from to limit ≡ Value (getD s from 0) next (next + len)
+    unfolding readLimited withLength
+    limited-value c d = search (tests, h, l)
+
+    pub limited-long : limit ≤ len → readLimited s from to limit ≡ Refused
+    unfolding readLimited withLength
+    limited-long c = search (tests, h, l)
+
+    pub limited-past : len < limit → to - next < len → readLimited s from to limit ≡ Refused
+    unfolding readLimited withLength
+    limited-past c d = search (tests, h, l)
+
+  pub limited-bad : to ≤ length s → from < to → highTag (getD s from 0) ≡ false → readLength s (from + 1) to ≡ Bad → readLimited s from to limit ≡ Refused
+  unfolding readLimited withLength
+  limited-bad a b h l = search (tests, h, l)
 
 -- ---- a content that was looked for
 of-tag : (tag refusal : ℕ) (r : Read) (p : Span) → ofTag tag refusal r ≡ Content p → r ≡ Value tag (p .start) (p .end)

@@ -10,5 +10,3 @@ pub mod Row
 pub mod Minimum
 pub mod Laid
 pub mod Exact
-pub mod SmallValues
-pub mod BitStrings

@@ -5,9 +5,6 @@ ghost use Prim.Native.Nat.{_+_, _≤_, _<_};
 ghost use lib.ListN.{length};
 ghost use Rattle.der.specs.Model.{ByteAt, highTag, longForm, readLength, readLimited, readValue, expectAt, countValues, sameParts};
 
-pub mod bits;
-pub mod small;
-
 // Every content in a certificate is shorter than this.
 pub const LIMIT: usize = 65535;
 

@@ -2,10 +2,10 @@
 use der::Count;
 use der::Got;
 use der::Read;
-use der::bits;
-use der::small;
-use der::small::Small;
-use der::small::Truth;
+use values::bits;
+use values::small;
+use values::small::Small;
+use values::small::Truth;
 
 fn put(text: &[u8]) {
     io::write_all(1, text);

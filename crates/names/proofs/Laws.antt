@@ -1,18 +1,14 @@
 -- Laws of the definitions of `specs/Model.antt` that the functions' proofs cite: each exit and each turn of a loop. Assumes nothing.
-use Prim.Native.Nat.{ℕ, suc, _+_, _-_, _*_, _≤_, _<_}
-use mathlib.Core.Path.{_≡_, refl, ap}
-use mathlib.Core.List.{List, [], _∷_}
+use Prim.Native.Nat.{ℕ, _+_, _-_, _*_, _≤_, _<_}
+use mathlib.Core.Path.{_≡_, refl}
+use mathlib.Core.List.{List}
 use mathlib.Core.Bool.{Bool, true, false, cond, not}
 use mathlib.Core.Logic.{_⊎_, inl, inr, ⊎-elim}
-use lib.ListN.{length, getD, take, drop, length-drop, drop-of-length-le}
-use lib.Seq.{take-all, drop-cons}
+use lib.ListN.{length, getD, take, drop}
 use lib.Dec.{eqb}
 use native.Mathlib.Omega.{arith}
-use native.Mathlib.Numerals.{add-one}
-use borrow.Author.Tests.{eq-eqb, ne-eqb, eqb-true, not-false}
-use Rattle.names.specs.declared.dns.Label.{Label}
-use Rattle.names.specs.declared.dns.Taken.the-variants.{Next, Bad}
-use Rattle.names.specs.declared.Answer.the-variants.{Yes, No, Refused}
+use borrow.Author.Tests.{eq-eqb, eqb-true, not-false}
+use Rattle.dns.specs.declared.Answer.the-variants.{Yes, No, Refused}
 use Rattle.names.specs.declared.ip.Masked.the-variants.{Same, Differs, Broken}
 use Rattle.names.specs.declared.general.Name.{Name}
 use Rattle.names.specs.declared.general.Name.the-variants.{Found, Refused as NoName}
@@ -26,94 +22,8 @@ use Rattle.der.specs.declared.Read.the-variants.{Value, Refused as NoValue}
 use Rattle.der.specs.Model.{readValue}
 use Rattle.der.proofs.Invert.{either}
 use Rattle.der.proofs.Theorems.{value-places}
-use Rattle.names.specs.Names.{small}
-use Rattle.names.specs.Model.{begins, sameText, fromDot, takeByte, onTaken, hostFrom, whole, neither, matchSubnet, maskedByte, onMasked, subnetFrom, isKind, ofKind, generalName, isWanted, onFound, tryName, onTried}
-
--- ---- no two answers are one
-pub yes-no : Yes ≡ No → ⊥
-yes-no h = let z : _≡_ {A = ℕ} 0 1 = cc in omega arith
-
-pub yes-refused : {e : ℕ} → Yes ≡ Refused e → ⊥
-yes-refused h = let z : _≡_ {A = ℕ} 0 1 = cc in omega arith
-
-pub no-refused : {e : ℕ} → No ≡ Refused e → ⊥
-no-refused h = let z : _≡_ {A = ℕ} 0 1 = cc in omega arith
-
--- ---- parts of a text
-pub rest-all : (h : List ℕ) (i : ℕ) → take (length h - i) (drop i h) ≡ drop i h
-rest-all h i = take-all (length h - i) (drop i h) (simp length-drop (omega arith))
-
-pub begins-none : (h : List ℕ) (b : ℕ) → length h ≡ 0 → begins h b ≡ false
-unfolding begins
-begins-none [] b e = refl
-begins-none (x ∷ xs) b e = absurd (omega arith)
-
-pub begins-some : (h : List ℕ) (b : ℕ) → (length h ≡ 0 → ⊥) → begins h b ≡ eqb (getD h 0 0) b
-unfolding begins
-begins-some [] b e = absurd (e refl)
-begins-some (x ∷ xs) b e = refl
-
-pub rest-none : (h : List ℕ) → length h ≡ 0 → h ≡ drop 1 h
-rest-none [] e = refl
-rest-none (x ∷ xs) e = absurd (omega arith)
-
--- a place of a text: the byte there and what is after it
-at-place : (h : List ℕ) (i : ℕ) → i < length h → drop i h ≡ getD h i 0 ∷ drop (i + 1) h
-at-place h i l = rw (add-one, drop-cons h i 0)
-
-past-end : (h : List ℕ) (i : ℕ) → length h ≤ i → drop i h ≡ []
-past-end h i l = drop-of-length-le h l
-
--- ---- two texts compared
-pub same-length : (xs ys : List ℕ) → (length xs ≡ length ys → ⊥) → sameText xs ys ≡ false
-unfolding sameText
-same-length [] [] h = absurd (h refl)
-same-length [] (y ∷ ys) h = refl
-same-length (x ∷ xs) [] h = refl
-same-length (x ∷ xs) (y ∷ ys) h = go (eqb (small x) (small y)) (same-length xs ys (λ q. h (ap suc q)))
-  where
-    go : (b : Bool) → sameText xs ys ≡ false → cond b (sameText xs ys) false ≡ false
-    go true r = r
-    go false r = refl
-
-module _ (x y : List ℕ) (i : ℕ) (h : i < length x) (k : i < length y) where
-  pub same-turn : small (getD x i 0) ≡ small (getD y i 0) → sameText (drop (i + 1) x) (drop (i + 1) y) ≡ sameText (drop i x) (drop i y)
-  unfolding sameText
-  same-turn e = rw (at-place x i h, at-place y i k, eq-eqb _ _ e)
-
-  pub same-differ : (small (getD x i 0) ≡ small (getD y i 0) → ⊥) → sameText (drop i x) (drop i y) ≡ false
-  unfolding sameText
-  same-differ e = rw (at-place x i h, at-place y i k, ne-eqb _ _ e)
-
-pub same-end : (x y : List ℕ) (i : ℕ) → length x ≤ i → length y ≤ i → sameText (drop i x) (drop i y) ≡ true
-unfolding sameText
-same-end x y i h k = rw (past-end x i h, past-end y i k)
-
--- ---- the first dot
-pub dot-turn : (h : List ℕ) (i : ℕ) → i < length h → (getD h i 0 ≡ 46 → ⊥) → fromDot (drop (i + 1) h) ≡ fromDot (drop i h)
-unfolding fromDot
-dot-turn h i l n = rw (at-place h i l, ne-eqb _ _ n)
-
-pub dot-here : (h : List ℕ) (i : ℕ) → i < length h → getD h i 0 ≡ 46 → drop i h ≡ fromDot (drop i h)
-unfolding fromDot
-dot-here h i l e = rw (at-place h i l, eq-eqb _ _ e)
-
-pub dot-end : (h : List ℕ) (i : ℕ) → length h ≤ i → drop i h ≡ fromDot (drop i h)
-unfolding fromDot
-dot-end h i l = rw (past-end h i l)
-
--- ---- a text byte by byte
-pub host-turn : (h : List ℕ) (i : ℕ) (l l′ : Label) → i < length h → takeByte l (getD h i 0) ≡ Next l′ → hostFrom (drop (i + 1) h) l′ ≡ hostFrom (drop i h) l
-unfolding hostFrom onTaken
-host-turn h i l l′ k e = rw (at-place h i k, e)
-
-pub host-bad : (h : List ℕ) (i : ℕ) (l : Label) → i < length h → takeByte l (getD h i 0) ≡ Bad → hostFrom (drop i h) l ≡ false
-unfolding hostFrom onTaken
-host-bad h i l k e = rw (at-place h i k, e)
-
-pub host-end : (h : List ℕ) (i : ℕ) (l : Label) → length h ≤ i → hostFrom (drop i h) l ≡ cond (l .digits) false (whole l)
-unfolding hostFrom
-host-end h i l k = rw (past-end h i k)
+use Rattle.dns.proofs.Laws.{rest-all, at-place, past-end}
+use Rattle.names.specs.Model.{neither, matchSubnet, maskedByte, onMasked, subnetFrom, isKind, ofKind, generalName, isWanted, onFound, tryName, onTried}
 
 -- ---- an address in a subnet
 pub neither-false : (n a b : ℕ) → neither n a b ≡ false → (n ≡ a) ⊎ (n ≡ b)

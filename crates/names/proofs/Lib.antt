@@ -1,9 +1,4 @@
 pub mod Laws
-pub mod Labels
-pub mod Valid
-pub mod Texts
-pub mod Subtree
-pub mod Match
 pub mod Rows
 pub mod Wanted
 pub mod Bits

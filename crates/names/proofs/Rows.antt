@@ -13,11 +13,11 @@ use Rattle.der.specs.X690.{encoding}
 use Rattle.der.proofs.Laid.{read-laid, laid-read}
 use Rattle.der.proofs.Parts.{part-length, part-split, part-front}
 use Rattle.names.specs.declared.general.Name.the-variants.{Found as Is}
-use Rattle.names.specs.Names.{every}
+use Rattle.dns.specs.Names.{every}
 use Rattle.names.specs.General.{choices, among, General, Named}
 use Rattle.names.specs.Model.{isKind, ofKind, generalName}
-use Rattle.names.proofs.Labels.{true-false}
-use Rattle.names.proofs.Texts.{both}
+use Rattle.dns.proofs.Labels.{true-false}
+use Rattle.dns.proofs.Texts.{both}
 use Rattle.names.proofs.Laws.{name-at}
 
 low-of : (t : ℕ) (xs : List ℕ) → every (λ x. not (highTag x)) xs ≡ true → among t xs ≡ true → highTag t ≡ false

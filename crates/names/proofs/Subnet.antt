@@ -14,15 +14,16 @@ use Rattle.refusal.specs.Refusals.{badDer, invalidNetworkMaskConstraint}
 use Rattle.der.specs.Places.{Bytes}
 use Rattle.der.proofs.Laws.{lt-or-le}
 use Rattle.der.proofs.Parts.{append-inv}
-use Rattle.names.specs.declared.Answer.{Answer}
-use Rattle.names.specs.declared.Answer.the-variants.{Yes, No, Refused}
+use Rattle.dns.specs.declared.Answer.{Answer}
+use Rattle.dns.specs.declared.Answer.the-variants.{Yes, No, Refused}
 use Rattle.names.specs.declared.ip.Masked.the-variants.{Same, Differs}
-use Rattle.names.specs.Answers.{Answers, Decides}
+use Rattle.dns.specs.Answers.{Answers, Decides}
 use Rattle.names.specs.Addresses.{bitsOf, bits, Prefix, Inside, InSubnet}
 use Rattle.names.specs.Model.{neither, brokenMask, maskedByte, onMasked, subnetFrom, matchSubnet}
-use Rattle.names.proofs.Labels.{true-false}
-use Rattle.names.proofs.Texts.{both}
-use Rattle.names.proofs.Laws.{yes-no, yes-refused, no-refused, neither-false, either-size}
+use Rattle.dns.proofs.Labels.{true-false}
+use Rattle.dns.proofs.Texts.{both}
+use Rattle.dns.proofs.Laws.{yes-no, yes-refused, no-refused}
+use Rattle.names.proofs.Laws.{neither-false, either-size}
 use Rattle.names.proofs.Bits.{up-to-8, bytes-cons, bits-length, bits-quotient, quotient-bits, bits-within, bits-past, maskOf, mask-more, mask-last, mask-length, mask-prefix, prefix-mask}
 
 -- ---- a byte of the mask

@@ -19,21 +19,23 @@ use Rattle.der.specs.Loop.{run, walk}
 use Rattle.der.proofs.Invert.{peel, either}
 use Rattle.der.proofs.Equal.{same-yes, same-equal}
 use Rattle.der.proofs.Parts.{part-length, part-none}
-use Rattle.names.specs.declared.Answer.{Answer}
-use Rattle.names.specs.declared.Answer.the-variants.{Yes, No, Refused as RefusedFor}
+use Rattle.dns.specs.declared.Answer.{Answer}
+use Rattle.dns.specs.declared.Answer.the-variants.{Yes, No, Refused as RefusedFor}
 use Rattle.names.specs.declared.general.Name.{Name}
 use Rattle.names.specs.declared.general.Name.the-variants.{Found as Is, Refused as NoName}
 use Rattle.names.specs.declared.general.Tried.the-variants.{Good as Hit, Next as On}
 use Rattle.names.specs.declared.general.Verdict.{Verdict}
 use Rattle.names.specs.declared.general.Verdict.the-variants.{Good, Refused}
-use Rattle.names.specs.Names.{labels, relative, wantedName, presentedName, StandsFor}
+use Rattle.dns.specs.Names.{labels, relative, wantedName, presentedName, StandsFor}
 use Rattle.names.specs.General.{General, Named, encoded, Each, Broken, ForDns, ForIp, Reached, Passed, BrokenOff}
-use Rattle.names.specs.Model.{isKind, ofKind, generalName, isYes, matchWanted, neither, sameAddress, fits, isWanted, onFound, tryName, onTried, goodFor, goodForDns, goodForIp}
-use Rattle.names.proofs.Labels.{true-false}
+use Rattle.dns.specs.Model.{matchWanted}
+use Rattle.names.specs.Model.{isKind, ofKind, generalName, isYes, neither, sameAddress, fits, isWanted, onFound, tryName, onTried, goodFor, goodForDns, goodForIp}
+use Rattle.dns.proofs.Labels.{true-false}
 use Rattle.names.proofs.Rows.{ReadAt, read-name, named-at}
-use Rattle.names.proofs.Valid.{wanted-valid}
-use Rattle.names.proofs.Match.{wanted-decides, wanted-refused}
-use Rattle.names.proofs.Laws.{yes-no, yes-refused, neither-false, either-size}
+use Rattle.dns.proofs.Valid.{wanted-valid}
+use Rattle.dns.proofs.Match.{wanted-decides, wanted-refused}
+use Rattle.dns.proofs.Laws.{yes-no, yes-refused}
+use Rattle.names.proofs.Laws.{neither-false, either-size}
 
 -- what the rest of the names comes to: one that fits, none to the end, or one that cannot be read
 data Walked (fit : General → Bool) (bytes : List ℕ) (r : Verdict) : Type 0 where

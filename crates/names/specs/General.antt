@@ -7,7 +7,7 @@ use mathlib.Core.Logic.{_⊎_}
 use lib.ListN.{length}
 use lib.Dec.{eqb}
 use Rattle.der.specs.X690.{encoding}
-use Rattle.names.specs.Names.{labels, relative, presentedName, StandsFor}
+use Rattle.dns.specs.Names.{labels, relative, presentedName, StandsFor}
 
 abbrev pub dnsName : ℕ
 dnsName = 130
@@ -46,13 +46,13 @@ Each P (n ∷ ns) = P n × Each P ns
 abbrev pub Broken : List ℕ → Type 0
 Broken bytes = (n : General) → Named n → (rest : List ℕ) → bytes ≡ encoding (n .kind) (n .content) ++ rest → ⊥
 
--- RFC 9525, 6.4: a DNS name that stands for the one that is looked for
+-- RFC 9525, 6.3: a DNS name that stands for the one that is looked for
 pub record ForDns (wanted : List ℕ) (n : General) : Type 0 where
   pub kind-is : n .kind ≡ dnsName
   pub is-name : presentedName (n .content) ≡ true
   pub stands : StandsFor (labels (n .content)) (relative (labels wanted))
 
--- RFC 9525, 6.5: an address, of 4 octets or 16, that is the one that is looked for
+-- RFC 9525, 6.4: an address, of 4 octets or 16, that is the one that is looked for
 pub record ForIp (wanted : List ℕ) (n : General) : Type 0 where
   pub kind-is : n .kind ≡ ipAddress
   pub size : (length (n .content) ≡ 4) ⊎ (length (n .content) ≡ 16)

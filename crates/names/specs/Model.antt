@@ -1,14 +1,11 @@
 -- What the code answers, as functions of the bytes: the same tests in the same order.
-use Prim.Native.Nat.{ℕ, _+_, _-_, _*_, _/_, _%_}
+use Prim.Native.Nat.{ℕ, _-_, _*_, _/_, _%_}
 use mathlib.Core.List.{List, [], _∷_}
 use mathlib.Core.Bool.{Bool, true, false, cond, not}
-use lib.ListN.{length, getD, take, drop}
-use lib.Dec.{ltb, leb, eqb}
-use Rattle.names.specs.declared.Answer.{Answer}
-use Rattle.names.specs.declared.Answer.the-variants.{Yes, No, Refused}
-use Rattle.names.specs.declared.dns.Label.{Label}
-use Rattle.names.specs.declared.dns.Taken.{Taken}
-use Rattle.names.specs.declared.dns.Taken.the-variants.{Next, Bad}
+use lib.ListN.{length, take, drop}
+use lib.Dec.{eqb}
+use Rattle.dns.specs.declared.Answer.{Answer}
+use Rattle.dns.specs.declared.Answer.the-variants.{Yes, No, Refused}
 use Rattle.names.specs.declared.general.Name.{Name}
 use Rattle.names.specs.declared.general.Name.the-variants.{Found, Refused as NoName}
 use Rattle.names.specs.declared.general.Tried.{Tried}
@@ -17,135 +14,14 @@ use Rattle.names.specs.declared.general.Verdict.{Verdict}
 use Rattle.names.specs.declared.general.Verdict.the-variants.{Good, Refused as NotGood}
 use Rattle.names.specs.declared.ip.Masked.{Masked}
 use Rattle.names.specs.declared.ip.Masked.the-variants.{Same, Differs, Broken}
-use Rattle.refusal.specs.Refusals.{badDer, certNotValidForName, invalidNetworkMaskConstraint, malformedDnsIdentifier, malformedNameConstraint}
+use Rattle.refusal.specs.Refusals.{badDer, certNotValidForName, invalidNetworkMaskConstraint, malformedDnsIdentifier}
 use Rattle.der.specs.declared.Read.{Read}
 use Rattle.der.specs.declared.Read.the-variants.{Value, Refused as NoValue}
 use Rattle.der.specs.Model.{readValue, sameParts}
 use Rattle.der.specs.Places.{part}
 use Rattle.der.specs.Loop.{walk}
-use Rattle.names.specs.Names.{dot, star, hyphen, underscore, longestLabel, longestName, digit, letter, small}
+use Rattle.dns.specs.Model.{validWanted, matchWanted}
 use Rattle.names.specs.General.{dnsName, ipAddress, among, choices}
-
-unfoldable pub begins : List ℕ → ℕ → Bool
-begins [] b = false
-begins (x ∷ xs) b = eqb x b
-
--- the same but for the case of ASCII letters
-unfoldable pub sameText : List ℕ → List ℕ → Bool
-sameText [] [] = true
-sameText [] (y ∷ ys) = false
-sameText (x ∷ xs) [] = false
-sameText (x ∷ xs) (y ∷ ys) = cond (eqb (small x) (small y)) (sameText xs ys) false
-
-unfoldable pub relativeText : List ℕ → List ℕ
-relativeText h =
-    cond (eqb (length h) 0)
-    h
-    (cond (eqb (getD h (length h - 1) 0) dot) (take (length h - 1) h) h)
-
-unfoldable pub fromDot : List ℕ → List ℕ
-fromDot [] = []
-fromDot (x ∷ xs) = cond (eqb x dot) (x ∷ xs) (fromDot xs)
-
--- ---- a text byte by byte
-unfoldable pub whole : Label → Bool
-whole l = cond (eqb (l .size) 0) false (cond (l .hyphen) false true)
-
-abbrev pub fresh : Label
-fresh = record { size = 0; hyphen = false; digits = true }
-
--- one byte more than l
-abbrev pub grown : Label → Bool → Bool → Taken
-grown l h d = Next (record { size = l .size + 1; hyphen = h; digits = d })
-
-unfoldable pub takeByte : Label → ℕ → Taken
-takeByte l b =
-    cond (eqb b dot)
-    (cond (whole l) (Next fresh) Bad)
-    (cond (leb longestLabel (l .size))
-    Bad
-    (cond (eqb b hyphen)
-    (cond (eqb (l .size) 0) Bad (grown l true false))
-    (cond (digit b)
-    (grown l false (l .digits))
-    (cond (letter b) (grown l false false) (cond (eqb b underscore) (grown l false false) Bad)))))
-
--- go on with the label, or not
-unfoldable pub onTaken : Taken → (Label → Bool) → Bool
-onTaken (Next l) k = k l
-onTaken Bad k = false
-
-unfoldable pub hostFrom : List ℕ → Label → Bool
-hostFrom [] l = cond (l .digits) false (whole l)
-hostFrom (b ∷ bs) l = onTaken (takeByte l b) (hostFrom bs)
-
-unfoldable pub hostText : List ℕ → Bool
-hostText h = hostFrom h fresh
-
--- ---- the three roles
--- after the star and a dot
-unfoldable pub validStarred : List ℕ → Bool
-validStarred name = cond (eqb (length (fromDot name)) 0) false (hostText name)
-
-unfoldable pub validPresented : List ℕ → Bool
-validPresented h =
-    cond (ltb longestName (length h))
-    false
-    (cond (begins h star) (cond (begins (drop 1 h) dot) (validStarred (drop 1 (drop 1 h))) false) (hostText h))
-
-unfoldable pub validWanted : List ℕ → Bool
-validWanted h = cond (ltb longestName (length h)) false (hostText (relativeText h))
-
-unfoldable pub validEntry : List ℕ → Bool
-validEntry h =
-    cond (ltb longestName (length h))
-    false
-    (cond (eqb (length h) 0) true (cond (begins h dot) (hostText (drop 1 h)) (hostText h)))
-
--- ---- comparisons
-unfoldable pub standsFor : List ℕ → List ℕ → Bool
-standsFor p q = cond (begins p star) (sameText (drop 1 p) (fromDot q)) (sameText p q)
-
--- the end of p, as long as q
-abbrev pub tail : List ℕ → List ℕ → List ℕ
-tail p q = drop (length p - length q) p
-
-unfoldable pub inSubtree : List ℕ → List ℕ → Bool
-inSubtree p q =
-    cond (eqb (length q) 0)
-    true
-    (cond (leb (length p) (length q))
-    (sameText p q)
-    (cond (begins q dot)
-    (sameText (tail p q) q)
-    (cond (eqb (getD p (length p - length q - 1) 0) dot) (sameText (tail p q) q) false)))
-
-unfoldable pub meetsSubtree : List ℕ → List ℕ → Bool
-meetsSubtree p q =
-    cond (inSubtree p q)
-    true
-    (cond (begins p star) (sameText (drop 1 p) (fromDot (drop 1 q))) false)
-
-unfoldable pub yesIf : Bool → Answer
-yesIf b = cond b Yes No
-
-unfoldable pub matchWanted : List ℕ → List ℕ → Answer
-matchWanted p q =
-    cond (validPresented p)
-    (cond (validWanted q) (yesIf (standsFor p (relativeText q))) (Refused malformedDnsIdentifier))
-    (Refused malformedDnsIdentifier)
-
-unfoldable pub matchPermitted : List ℕ → List ℕ → Answer
-matchPermitted p q =
-    cond (validPresented p)
-    (cond (validEntry q) (yesIf (inSubtree p q)) (Refused malformedNameConstraint))
-    (Refused malformedDnsIdentifier)
-
-unfoldable pub matchExcluded : List ℕ → List ℕ → Answer
-matchExcluded p q =
-    cond (validPresented p)
-    (cond (validEntry q) (yesIf (meetsSubtree p q)) (Refused malformedNameConstraint))
-    (Refused malformedDnsIdentifier)
 
 -- ---- addresses
 unfoldable pub neither : ℕ → ℕ → ℕ → Bool

@@ -1,8 +1,7 @@
 // General names, and whether one of them is the name that is looked for.
-use crate::Answer;
-use crate::dns;
 use crate::ip;
 use der::Read;
+use dns::Answer;
 ghost use mathlib.Core.Path.{_≡_};
 ghost use Prim.Native.Nat.{_≤_};
 ghost use lib.ListN.{length};

@@ -1,5 +1,5 @@
 // IP addresses: whether one lies in a subnet, which is an address and a mask.
-use crate::Answer;
+use dns::Answer;
 ghost use mathlib.Core.Path.{_≡_};
 ghost use mathlib.Core.Bool.{true};
 ghost use lib.ListN.{length};
@@ -102,7 +102,7 @@ pub fn match_subnet(p: &[u8], q: &[u8]) -> Answer
 }
 
 // Whether the presented p is an address, and the one that is looked for.
-pub fn same_address(p: &[u8], q: &[u8]) -> bool
+pub(crate) fn same_address(p: &[u8], q: &[u8]) -> bool
     ensures { λ r. ⌜ r ≡ sameAddress (now (p .entry)) (now (q .entry)) ⌝ }
 {
     if neither(p.len(), IPV4, IPV6) {

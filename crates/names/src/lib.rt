@@ -1,11 +1,3 @@
-// Names that a certificate presents: host names and addresses, wanted ones and the entries of name constraints.
-pub mod dns;
+// Names that a certificate presents: general names, and addresses in subnets.
 pub mod general;
 pub mod ip;
-
-// What a comparison answers.
-pub enum Answer {
-    Yes,
-    No,
-    Refused(u16),
-}

@@ -1,7 +1,6 @@
 // Answers each line of hexadecimal digits: the first byte is the question, the second says how many bytes the first text has, and the
 // rest is the second text.
-use names::Answer;
-use names::dns;
+use dns::Answer;
 use names::general;
 use names::general::Name;
 use names::general::Verdict;

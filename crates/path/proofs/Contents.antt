@@ -30,6 +30,7 @@ contentsOf s c =
       key = at s (c .key);
       basicConstraints = slotAt s (c .known .«basic_constraints»);
       extKeyUsage = slotAt s (c .known .«key_purposes»);
+      subjectAltName = slotAt s (c .known .«alternative_name»);
     }
 
 -- the bytes are a certificate with these contents

@@ -69,7 +69,7 @@ module _ (s : List ℕ) (b : Bytes s) (to : ℕ) (wanted : List ℕ) where
   run-sound (suc fuel) at e =
       ⊎-elim
       (λ w.
-      let g = gone-on (expectAt s at to 6 badDer) _ (expect-fair s at to 6 badDer (lit< tt)) (w .1) in
+      let g = gone-on (expectAt s at to 6 badDer) _ (expect-fair s at to 6 badDer (lit< tt, lit< tt)) (w .1) in
       let p = g .0 in
       let l = lists-step at p (g .1) in
       ⊎-elim

@@ -1,5 +1,5 @@
 -- A question's places are those of the certificate's skeleton, and no answer comes to yes where the key cannot be read. Assumes nothing.
-use Prim.Native.Nat.{ℕ, _<_}
+use Prim.Native.Nat.{ℕ}
 use mathlib.Core.Path.{_≡_, refl, sym, ap, _∙_}
 use mathlib.Core.List.{List, []}
 use mathlib.Core.Bool.{true}
@@ -7,11 +7,12 @@ use mathlib.Core.Logic.{⊎-elim}
 use lib.ListN.{length, getD}
 use lib.Dec.{lit<, ltb, eqb}
 use native.Mathlib.Omega.{arith}
-use borrow.Author.Tests.{ltb-true, ltb-false, eqb-true}
+use borrow.Author.Tests.{ltb-true, ltb-false, lt-ltb, le-ltb, eqb-true}
 use Rattle.refusal.specs.Refusals.{badDer, unsupportedSignatureAlgorithm}
 use Rattle.der.specs.declared.Span.{Span}
 use Rattle.der.specs.Places.{Bytes, part}
-use Rattle.der.specs.Model.{expectAt, bitsAt}
+use Rattle.der.specs.Model.{expectAt}
+use Rattle.values.specs.Model.{bitsAt}
 use Rattle.der.proofs.Invert.{either}
 use Rattle.cert.specs.declared.Certificate.{Certificate}
 use Rattle.cert.specs.declared.Reading.{Reading}
@@ -21,14 +22,18 @@ use Rattle.cert.specs.declared.key.Key.the-variants.{Parts as KeyParts, Refused
 use Rattle.cert.specs.Model.{readCertificate, keyParts}
 use Rattle.cert.proofs.Value.{part-whole}
 use Rattle.cert.proofs.Sound.{sound}
-use Rattle.cert.proofs.PublicKeys.{key-sound}
-use Rattle.cert.proofs.Refusals.{by-test, by-content, expect-fair, bits-fair, ReadingFair, reading-is, reading-not, read-fair}
+use Rattle.cert.specs.Rfc5280.{keyContent}
+use Rattle.cert.specs.Layout.{placeOf, bitsOf}
+use Rattle.cert.proofs.Laws.{read-inside}
+use Rattle.cert.proofs.PublicKeys.{key-sound, key-complete}
+use Rattle.cert.proofs.Refusals.{Fair, by-test, by-content, expect-fair, bits-fair, ReadingFair, reading-is, reading-not, read-fair}
 use Rattle.path.specs.declared.asked.Question.the-variants.{Of, Refused as NoQuestion}
 use Rattle.path.specs.Lent.{certificateOf}
-use Rattle.path.specs.Questions.{Signed, of-anchor, of-certificate, Opens}
+use Rattle.path.specs.Conditions.{Contents}
+use Rattle.path.specs.Questions.{Signed, KeyOf, of-anchor, of-certificate, Opens}
 use Rattle.path.specs.Model.{onReading, keyOf, questionOf, replyFor, replyOf}
 use Rattle.path.proofs.Contents.{at, contentsOf}
-use Rattle.path.proofs.Skeletons.{reads-certificate}
+use Rattle.path.proofs.Skeletons.{reads-certificate, certificate-reads}
 use Rattle.path.proofs.Verdicts.{on-reading}
 
 -- ---- the question
@@ -59,14 +64,14 @@ module _ (issuers : List (List ℕ)) (end : List ℕ) (keys : List (List ℕ)) (
 -- ---- the reply
 data KeyFair : Key → Type 0 where
   key-is : (p q : Span) → KeyFair (KeyParts p q)
-  key-not : {e : ℕ} → 0 < e → KeyFair (NoKey e)
+  key-not : {e : ℕ} → Fair e → KeyFair (NoKey e)
 
 parts-fair : (s : List ℕ) (from to : ℕ) → KeyFair (keyParts s from to)
 unfolding keyParts
 parts-fair s from to =
-    by-content KeyFair (expectAt s from to 48 badDer) NoKey _ (expect-fair s from to 48 _ (lit< tt)) (λ e h. key-not h) (λ a b.
+    by-content KeyFair (expectAt s from to 48 badDer) NoKey _ (expect-fair s from to 48 _ (lit< tt, lit< tt)) (λ e h. key-not h) (λ a b.
     by-content KeyFair (bitsAt s b to) NoKey _ (bits-fair s b to) (λ e h. key-not h) (λ c d.
-    by-test KeyFair (eqb d to) (key-is _ _) (key-not (lit< tt))))
+    by-test KeyFair (eqb d to) (key-is _ _) (key-not (lit< tt, lit< tt))))
 
 on-reading-fair : (g : Reading) (k : Certificate → Key) → ReadingFair g → ((c : Certificate) → KeyFair (k c)) → KeyFair (onReading g NoKey k)
 unfolding onReading
@@ -79,7 +84,7 @@ module _ (issuers : List (List ℕ)) (end : List ℕ) (keys : List (List ℕ)) (
   key-fair =
       let s = certificateOf issuers end anchors n in
       by-test KeyFair (ltb n anchors)
-      (by-test KeyFair (ltb n (length keys)) (parts-fair (getD keys n []) 0 (length (getD keys n []))) (key-not (lit< tt)))
+      (by-test KeyFair (ltb n (length keys)) (parts-fair (getD keys n []) 0 (length (getD keys n []))) (key-not (lit< tt, lit< tt)))
       (on-reading-fair (readCertificate s true) _ (read-fair s true) (λ c. parts-fair s (c .key .start) (c .key .end)))
 
   opened : Bytes (getD keys n []) → Bytes (certificateOf issuers end anchors n) → (p q : Span) → keyOf issuers end keys anchors n ≡ KeyParts p q → Opens issuers end keys anchors n
@@ -98,6 +103,8 @@ module _ (issuers : List (List ℕ)) (end : List ℕ) (keys : List (List ℕ)) (
         algorithm = _;
         bits = _;
         content = sym (part-whole k) ∙ h .bytes;
+        algorithm-short = h .algorithm-short;
+        bits-short = h .bits-short;
       })
       (λ y. absurd (let u = y .1 in let z : _≡_ {A = ℕ} 0 1 = cc in omega arith))
       (either (ltb n (length keys)) (w .1)))
@@ -111,6 +118,8 @@ module _ (issuers : List (List ℕ)) (end : List ℕ) (keys : List (List ℕ)) (
         algorithm = _;
         bits = _;
         content = h .bytes;
+        algorithm-short = h .algorithm-short;
+        bits-short = h .bits-short;
       })
       (either (ltb n anchors) e)
 
@@ -129,6 +138,25 @@ module _ (issuers : List (List ℕ)) (end : List ℕ) (keys : List (List ℕ)) (
       (r .0, opened bk bc (r .1 .0) (r .1 .1) (r .1 .2)))
       (either (eqb answer unsupportedSignatureAlgorithm) e)
 
-  pub reply-complete : (p q : Span) → keyOf issuers end keys anchors n ≡ KeyParts p q → replyOf issuers end keys anchors n 0 ≡ 0
+  opens-parts : Bytes (certificateOf issuers end anchors n) → Opens issuers end keys anchors n → (p : Span) × (q : Span) × (keyOf issuers end keys anchors n ≡ KeyParts p q)
+  unfolding keyOf onReading
+  opens-parts b o = by (o .is)
+    where
+      by : KeyOf issuers end keys anchors n (o .key) → (p : Span) × (q : Span) × (keyOf issuers end keys anchors n ≡ KeyParts p q)
+      by (of-anchor l m e) =
+          let k = getD keys n [] in
+          let r = key-complete k 0 (length k) (o .algorithm) (o .bits) (omega arith) (omega arith) (o .algorithm-short) (o .bits-short) (part-whole k ∙ sym e ∙ o .content) in
+          (placeOf 0 (o .algorithm), bitsOf (placeOf 0 (o .algorithm) .end) (o .bits), rw (lt-ltb n anchors l, lt-ltb n (length keys) m) r)
+      by (of-certificate l x i e) =
+          let s = certificateOf issuers end anchors n in
+          let r = certificate-reads s x i in
+          let c = r .0 in
+          let w = read-inside s b true c (r .1) in
+          let is : at s (c .key) ≡ keyContent (o .algorithm) (o .bits) = ap (λ (y : Contents). y .key) (r .2) ∙ sym e ∙ o .content in
+          let q = key-complete s (c .key .start) (c .key .end) (o .algorithm) (o .bits) (w .key .ordered) (w .key .inside) (o .algorithm-short) (o .bits-short) is in
+          let p = placeOf (c .key .start) (o .algorithm) in
+          (p, bitsOf (p .end) (o .bits), rw (le-ltb n anchors l, r .1) q)
+
+  pub reply-complete : Bytes (certificateOf issuers end anchors n) → Opens issuers end keys anchors n → replyOf issuers end keys anchors n 0 ≡ 0
   unfolding replyOf replyFor
-  reply-complete p q e = rw e
+  reply-complete b o = rw (opens-parts b o .2)

@@ -10,15 +10,15 @@ use native.Mathlib.Omega.{arith}
 use borrow.Author.Tests.{ltb-false, eqb-true, eqb-false, eq-eqb, ne-eqb}
 use Rattle.der.specs.Places.{Bytes, part}
 use Rattle.der.specs.X690.{encoding, truth}
-use Rattle.der.specs.declared.small.Truth.{Truth}
-use Rattle.der.specs.declared.small.Truth.the-variants.{Is as Said, Refused as NoTruth}
-use Rattle.der.specs.declared.small.Small.{Small}
-use Rattle.der.specs.declared.small.Small.the-variants.{Number, Refused as NoNumber}
-use Rattle.der.specs.Model.{readBool, readSmall}
+use Rattle.values.specs.declared.small.Truth.{Truth}
+use Rattle.values.specs.declared.small.Truth.the-variants.{Is as Said, Refused as NoTruth}
+use Rattle.values.specs.declared.small.Small.{Small}
+use Rattle.values.specs.declared.small.Small.the-variants.{Number, Refused as NoNumber}
+use Rattle.values.specs.Model.{readBool, readSmall}
 use Rattle.der.proofs.Laws.{tests}
 use Rattle.der.proofs.Invert.{either}
 use Rattle.der.proofs.Parts.{part-length, part-split, part-none, part-front, part-tail}
-use Rattle.der.proofs.SmallValues.{There, NoBoolean, true-is, false-is, is-bool, absent-bool, small-is, is-small}
+use Rattle.values.proofs.SmallValues.{There, NoBoolean, true-is, false-is, is-bool, absent-bool, small-is, is-small}
 use Rattle.path.specs.Conditions.{Authority, unwritten, written, Bound, unbounded, atMost, PathLength, none, some, BasicConstraints, Optional, absent, present, Constrained, Role, endEntity, issuer, Allows, InRole}
 use Rattle.path.proofs.Contents.{found}
 use Rattle.cert.specs.Model.{onTruth}

@@ -14,7 +14,7 @@ use Rattle.der.proofs.Equal.{same-true}
 use Rattle.cert.specs.declared.Reading.the-variants.{Accepted}
 use Rattle.cert.specs.declared.extensions.Slot.{Slot}
 use Rattle.cert.specs.Model.{readCertificate}
-use Rattle.cert.specs.Rfc5280.{integer, bitString, octetString, objectIdentifier, sequence, explicit, Extension, Extensions, missing, present as given, Skeleton, criticality, extensionContent, extension, extensionList, extensions, version, tbsContent, tbsCertificate, certificateContent, certificate, KnownNumber, basicConstraints, extKeyUsage, idCe, isNumber, Taken, usage, known, other, Each, more, listed, Readable}
+use Rattle.cert.specs.Rfc5280.{integer, bitString, octetString, objectIdentifier, sequence, explicit, Extension, Extensions, missing, present as given, Skeleton, criticality, extensionContent, extension, extensionList, extensions, version, tbsContent, tbsCertificate, certificateContent, certificate, KnownNumber, basicConstraints, extKeyUsage, subjectAltName, idCe, isNumber, Taken, usage, known, other, Each, more, listed, Readable}
 use Rattle.cert.specs.Layout.{placeOf, header, valueOf, keptOf, slotFor, slots, knownAt, places}
 use Rattle.cert.proofs.Value.{part-whole, encoded-length, place-end, place-start, find-in, find-last, find-last-in}
 use Rattle.cert.proofs.Slots.{header-is}
@@ -123,6 +123,11 @@ unfolding knownAt slots
 purposes-slot at missing = refl
 purposes-slot at (given xs) = refl
 
+names-slot : (at : ℕ) (es : Extensions) → slotIn 17 at es ≡ knownAt at es .«alternative_name»
+unfolding knownAt slots
+names-slot at missing = refl
+names-slot at (given xs) = refl
+
 -- ---- a whole certificate
 laid : (s : List ℕ) (k : Skeleton) → s ≡ certificate k → Readable true k → Describes k (contentsOf s (places k))
 unfolding certificate certificateContent tbsCertificate tbsContent integer sequence explicit version bitString places
@@ -159,6 +164,7 @@ laid s k e rules =
       key = sym (y .content);
       basicConstraints = rw (← basic-slot (key .end) (k .extensions)) (extensions-laid s 19 basicConstraints (λ q. omega arith) (k .extensions) (key .end) end rest (y .left) (rules .each));
       extKeyUsage = rw (← purposes-slot (key .end) (k .extensions)) (extensions-laid s 37 extKeyUsage (λ q. omega arith) (k .extensions) (key .end) end rest (y .left) (rules .each));
+      subjectAltName = rw (← names-slot (key .end) (k .extensions)) (extensions-laid s 17 subjectAltName (λ q. omega arith) (k .extensions) (key .end) end rest (y .left) (rules .each));
     }
 
 pub reads-certificate : (s : List ℕ) → Bytes s → (o : Contents) → Reads s o → IsCertificate s o
@@ -226,11 +232,12 @@ contents-once k rules o p d e =
     let f : o .key ≡ p .key = sym (d .key) ∙ e .key in
     let g = sequence-once (valueIn 19 (listed (k .extensions))) _ _ (value-short 19 (listed (k .extensions)) h) (d .basicConstraints) (e .basicConstraints) in
     let i = sequence-once (valueIn 37 (listed (k .extensions))) _ _ (value-short 37 (listed (k .extensions)) h) (d .extKeyUsage) (e .extKeyUsage) in
-    same-contents o p a b c f g i
+    let j = sequence-once (valueIn 17 (listed (k .extensions))) _ _ (value-short 17 (listed (k .extensions)) h) (d .subjectAltName) (e .subjectAltName) in
+    same-contents o p a b c f g i j
   where
     same-contents : (o p : Contents) → o .issuer ≡ p .issuer → o .validity ≡ p .validity → o .subject ≡ p .subject → o .key ≡ p .key
-        → o .basicConstraints ≡ p .basicConstraints → o .extKeyUsage ≡ p .extKeyUsage → o ≡ p
-    same-contents o p a b c f g i = rw (a, b, c, f, g, i)
+        → o .basicConstraints ≡ p .basicConstraints → o .extKeyUsage ≡ p .extKeyUsage → o .subjectAltName ≡ p .subjectAltName → o ≡ p
+    same-contents o p a b c f g i j = rw (a, b, c, f, g, i, j)
 
 pub certificate-reads : (s : List ℕ) (o : Contents) → IsCertificate s o → Reads s o
 certificate-reads s o x =

@@ -10,7 +10,8 @@ use Rattle.der.specs.X690.{encoding, truth, Natural}
 use Rattle.der.specs.Model.{LIMIT}
 use Rattle.moment.specs.Calendar.{IsTime, utc, generalized}
 
--- ---- 4.1.2.5: Validity ::= SEQUENCE { notBefore Time, notAfter Time }; 6.1.3 (a) (2): it includes the time, and its ends belong to it
+-- ---- 4.1.2.5: Validity ::= SEQUENCE { notBefore Time, notAfter Time }; 6.1.3 (a) (2): it includes the time, and its ends belong to it. No
+-- time is before 1970 (stricter); GeneralizedTime may write years before 2050, which 4.1.2.5 forbids to CAs
 -- Time ::= CHOICE { utcTime, generalTime }
 abbrev pub IsMoment : List ℕ → ℕ → Type 0
 IsMoment bytes n = IsTime utc bytes n ⊎ IsTime generalized bytes n
@@ -41,7 +42,7 @@ pub data Bound : Type 0 where
   unbounded : Bound
   atMost : ℕ → Bound
 
--- numbers above 255 are refused
+-- numbers above 255 are refused (stricter)
 pub data PathLength (bytes : List ℕ) (bound : Bound) : Type 0 where
   none : bytes ≡ [] → bound ≡ unbounded → PathLength bytes bound
   some : (n : ℕ) (content : List ℕ) → n < 256 → Natural n content → bytes ≡ encoding 2 content → bound ≡ atMost n → PathLength bytes bound
@@ -58,23 +59,23 @@ abbrev pub Constrained : Optional → Bool → Bound → Type 0
 Constrained absent authority bound = (authority ≡ false) × (bound ≡ unbounded)
 Constrained (present content) authority bound = BasicConstraints content authority bound
 
--- a path's first certificate, or an issuer with that many intermediates below it
+-- the end entity, or an issuer with that many intermediates below it
 pub data Role : Type 0 where
   endEntity : Role
   issuer : ℕ → Role
 
--- 6.1.4 (l), (m): self-issued intermediates count too
+-- 6.1.4 (l), (m), but self-issued intermediates count too (stricter)
 abbrev pub Allows : Bound → ℕ → Type 0
 Allows unbounded below = Unit {0}
 Allows (atMost n) below = below ≤ n
 
--- 6.1.4 (k): every issuer is a CA, and the end entity is none
+-- 6.1.4 (k): every issuer is a CA; that the end entity is none is no rule of RFC 5280 (stricter)
 abbrev pub InRole : Role → Optional → Type 0
 InRole endEntity extension = (bound : Bound) × Constrained extension false bound
 InRole (issuer below) extension = (bound : Bound) × Constrained extension true bound × Allows bound below
 
 -- ---- 4.2.1.12: ExtKeyUsageSyntax ::= SEQUENCE SIZE (1..MAX) OF KeyPurposeId
--- the wanted purpose is among them; what comes after it is not looked at
+-- the wanted purpose is among them, of issuers too (stricter), and anyExtendedKeyUsage is one like others (stricter); what comes after it is not looked at
 pub data Lists (wanted : List ℕ) : List ℕ → Type 0 where
   here : {content : List ℕ} (rest : List ℕ) → length wanted < LIMIT → content ≡ encoding 6 wanted ++ rest → Lists wanted content
   later : {content : List ℕ} (other rest : List ℕ) → length other < LIMIT → content ≡ encoding 6 other ++ rest → Lists wanted rest → Lists wanted content
@@ -92,6 +93,7 @@ pub record Contents : Type 0 where
   pub key : List ℕ
   pub basicConstraints : Optional
   pub extKeyUsage : Optional
+  pub subjectAltName : Optional
 
 abbrev pub Trusted : List (List ℕ) → List ℕ → Type 0
 Trusted distrusted key = (k : List ℕ) → List·Memᴰ k distrusted → key ≡ k → ⊥
@@ -109,7 +111,7 @@ roleOf [] = endEntity
 roleOf (n ∷ []) = endEntity
 roleOf (n ∷ (m ∷ ns)) = issuer (length ns)
 
--- 6.1.3 (a) (4): the issuer of one is the subject of the next, byte for byte
+-- 6.1.3 (a) (4): the issuer of one is the subject of the next; byte for byte, not as 7.1 compares names (stricter)
 abbrev pub Chained : Contents → List ℕ → Type 0
 Chained o subject = subject ≡ o .issuer
 

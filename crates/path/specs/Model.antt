@@ -7,9 +7,10 @@ use lib.ListN.{length, getD}
 use lib.Dec.{ltb, leb, eqb}
 use Rattle.refusal.specs.Refusals.{badDer, unknownIssuer, certDistrusted, invalidCertValidity, certNotValidYet, certExpired, pathLenConstraintViolated, endEntityUsedAsCa, caUsedAsEndEntity, emptyEkuExtension, requiredEkuNotFound, maximumPathDepthExceeded, unsupportedSignatureAlgorithm}
 use Rattle.der.specs.declared.Span.{Span}
-use Rattle.der.specs.declared.small.Small.{Small}
-use Rattle.der.specs.declared.small.Small.the-variants.{Number, Refused as NoNumber}
-use Rattle.der.specs.Model.{expectAt, onContent, readSmall, readBool, sameParts}
+use Rattle.values.specs.declared.small.Small.{Small}
+use Rattle.values.specs.declared.small.Small.the-variants.{Number, Refused as NoNumber}
+use Rattle.der.specs.Model.{expectAt, onContent, sameParts}
+use Rattle.values.specs.Model.{readSmall, readBool}
 use Rattle.der.specs.Loop.{walk}
 use Rattle.moment.specs.declared.Time.{Time}
 use Rattle.moment.specs.declared.Time.the-variants.{At, Refused as NoTime}

@@ -23,6 +23,7 @@ pub record Describes (k : Skeleton) (o : Contents) : Type 0 where
   pub key : k .key ≡ o .key
   pub basicConstraints : InSequence (valueIn 19 (listed (k .extensions))) (o .basicConstraints)
   pub extKeyUsage : InSequence (valueIn 37 (listed (k .extensions))) (o .extKeyUsage)
+  pub subjectAltName : InSequence (valueIn 17 (listed (k .extensions))) (o .subjectAltName)
 
 -- the bytes are the encoding of a certificate with these contents, which keeps the rules of a reader
 pub record IsCertificate (s : List ℕ) (o : Contents) : Type 0 where

@@ -1,9 +1,9 @@
 // The checks of one certificate by itself, each a refusal or 0: time, role and path length, purposes.
 use cert::Certificate;
 use der::Got;
-use der::small::Small;
-use der::small::Truth;
 use moment::Time;
+use values::small::Small;
+use values::small::Truth;
 ghost use mathlib.Core.Path.{_≡_};
 ghost use Rattle.path.specs.Model.{inTime, validAt, inRole, boundedRole, basicIn, basicOf, purposeIn, purposesOf, ownOf};
 
@@ -76,7 +76,7 @@ fn bounded_role(
 ) -> u16
     ensures { λ r. ⌜ r ≡ boundedRole (now (s .entry)) from to issuer authority below ⌝ }
 {
-    match der::small::read_small(s, from, to) {
+    match values::small::read_small(s, from, to) {
         Small::Number { value, next } => {
             let wrong = in_role(issuer, authority, value as usize, below);
             if wrong != 0 {
@@ -95,7 +95,7 @@ fn bounded_role(
 fn basic_in(s: &[u8], from: usize, to: usize, issuer: bool, below: usize) -> u16
     ensures { λ r. ⌜ r ≡ basicIn (now (s .entry)) from to issuer below ⌝ }
 {
-    match der::small::read_bool(s, from, to) {
+    match values::small::read_bool(s, from, to) {
         Truth::Is {
             value: authority,
             next,

@@ -103,3 +103,17 @@ fatal-exactly n = (
       (listed maximumSignatureChecksExceeded (maximumPathBuildCallsExceeded ∷ maximumNameConstraintComparisonsExceeded ∷ []) n e),
   ⊎-elim (λ p. rw p) (⊎-elim (λ p. rw p) (λ p. rw p)),
 )
+
+-- they are the last of the table: what comes before them ends nothing
+abbrev pub Mild : ℕ → Type 0
+Mild n = n < maximumSignatureChecksExceeded
+
+pub mild-not-fatal : (n : ℕ) → Mild n → isFatal n ≡ false
+mild-not-fatal n m = go (isFatal n) refl
+  where
+    go : (t : Bool) → isFatal n ≡ t → t ≡ false
+    go true e =
+        absurd (⊎-elim (λ (q : n ≡ maximumSignatureChecksExceeded). omega arith)
+        (⊎-elim (λ (q : n ≡ maximumPathBuildCallsExceeded). omega arith) (λ (q : n ≡ maximumNameConstraintComparisonsExceeded). omega arith))
+        (fatal-exactly n .0 e))
+    go false e = refl

@@ -12,14 +12,14 @@ use borrow.Author.Tests.{ltb-true, eqb-true, eqb-false}
 use Rattle.refusal.specs.Refusals.{badDer, invalidSignatureForPublicKey, unsupportedSignatureAlgorithm, unsupportedSignatureAlgorithmForPublicKey, maximumNameConstraintComparisonsExceeded}
 use Rattle.der.proofs.Laws.{lt-or-le}
 use Rattle.path.specs.Lent.{certificateOf, lower, pre}
-use Rattle.path.specs.Model.{firstOf, checkOn, keyOf}
+use Rattle.path.specs.Model.{checkOn, replyOf}
 use Rattle.constraints.specs.declared.Spent.{Spent}
 use Rattle.constraints.specs.Tally.{Tally, spend}
 use Rattle.constraints.specs.Paths.{certAt, certsAt, lower as numbers-below}
 use Rattle.constraints.specs.Model.{anchored, pathConstraints}
 use Rattle.constraints.proofs.Spending.{enough, lacking}
-use Rattle.search.specs.Model.{Path, World}
-use Rattle.search.specs.World.{keyFault, replyOf, loweredOf, isBound, namesOf, worldOf, Judges}
+use Rattle.dialogue.specs.Model.{Path, World}
+use Rattle.search.specs.World.{meaningOf, loweredOf, isBound, namesOf, worldOf, Judges}
 use Rattle.search.proofs.Levels.{pre-push}
 
 -- ---- the checks of a path with one more certificate
@@ -29,21 +29,21 @@ checks-push W I E n D t w m h path d i x l e =
     h (i ∷ pre path d) ∙ ap (checkOn I E n D t w m) (sym (pre-push path d i l)) ∙ sym e
 
 -- ---- 0 and nothing else is yes
-pub only-yes : (I : List (List ℕ)) (E : List ℕ) (K : List (List ℕ)) (n key a : ℕ) → replyOf I E K n key a ≡ 0 → a ≡ 0
-unfolding replyOf firstOf
-only-yes I E K n key a h = by (eqb a 0) refl (eqb a 2) (eqb a 3) (eqb a 4) (keyFault (keyOf I E K n key)) h
+pub only-yes : (a : ℕ) → meaningOf a ≡ 0 → a ≡ 0
+unfolding meaningOf
+only-yes a h = by (eqb a 0) refl (eqb a 2) (eqb a 3) (eqb a 4) h
   where
-    fault : (b : Bool) (f : ℕ) → eqb f 0 ≡ b → cond b badDer f ≡ 0 → a ≡ 0
-    fault true f q z = absurd (omega arith)
-    fault false f q z = absurd (eqb-false f 0 q z)
+    by : (b : Bool) → eqb a 0 ≡ b → (c d e : Bool)
+        → cond b 0 (cond c unsupportedSignatureAlgorithm (cond d unsupportedSignatureAlgorithmForPublicKey (cond e badDer invalidSignatureForPublicKey))) ≡ 0 → a ≡ 0
+    by true q c d e z = eqb-true a 0 q
+    by false q true d e z = absurd (omega arith)
+    by false q false true e z = absurd (omega arith)
+    by false q false false true z = absurd (omega arith)
+    by false q false false false z = absurd (omega arith)
 
-    by : (b : Bool) → eqb a 0 ≡ b → (c d e : Bool) (f : ℕ)
-        → cond b 0 (cond c unsupportedSignatureAlgorithm (cond d unsupportedSignatureAlgorithmForPublicKey (cond e (cond (eqb f 0) badDer f) invalidSignatureForPublicKey))) ≡ 0 → a ≡ 0
-    by true q c d e f z = eqb-true a 0 q
-    by false q true d e f z = absurd (omega arith)
-    by false q false true e f z = absurd (omega arith)
-    by false q false false true f z = fault (eqb f 0) f refl z
-    by false q false false false f z = absurd (omega arith)
+-- what an answer comes to, by the question that it answers and what it stands for
+pub replied : (I : List (List ℕ)) (E : List ℕ) (K : List (List ℕ)) (n key key′ m a x : ℕ) → x ≡ replyOf I E K n key m → key ≡ key′ → m ≡ meaningOf a → replyOf I E K n key′ (meaningOf a) ≡ x
+replied I E K n key key′ m a x e k w = sym (e ∙ ap (λ (j : ℕ). replyOf I E K n j m) k ∙ ap (replyOf I E K n key′) w)
 
 -- ---- numbers with the anchors left out
 pub lower-turn : (F : ℕ → ℕ) (low path : List ℕ) (i v : ℕ) → i < length low → v ≡ F (getD path i 0) → ((k : ℕ) → k < i → getD low k 0 ≡ F (getD path k 0))
@@ -130,7 +130,7 @@ pub judges : (I : List (List ℕ)) (E : List ℕ) (S K C : List (List ℕ)) (B :
     → Judges (worldOf I E S K C B D t w m) I E K C B n
 unfolding worldOf
 judges I E S K C B D t w m n e = record {
-  reply = λ key what a. ap (λ (k : ℕ). replyOf I E K k key a) (sym e);
+  reply = λ key what a. ap (λ (k : ℕ). replyOf I E K k key (meaningOf a)) (sym e);
   cost = λ anchor path. ap (λ (k : ℕ). namesOf I E k C B anchor path .taken) (sym e);
   named = λ anchor path. ap (λ (k : ℕ). namesOf I E k C B anchor path .refusal) (sym e);
 }

@@ -8,8 +8,8 @@ use lib.ListN.{length, getD, set}
 use lib.Seq.{getD-set-same, getD-set-other}
 use Rattle.refusal.specs.Refusals.{maximumPathDepthExceeded}
 use Rattle.path.specs.declared.candidate.Verdict.{Verdict}
-use Rattle.search.specs.Model.{Path, mostIntermediates, World, Event, note, leave, one, each, node, enter, events}
-use Rattle.path.specs.Lent.{lower, pre}
+use Rattle.dialogue.specs.Model.{Path, World, Event, note, leave, one, each, node, enter, events}
+use Rattle.path.specs.Lent.{mostIntermediates, lower, pre}
 use Rattle.search.specs.Levels.{under, remaining}
 
 -- ---- a store at a level or above it changes nothing below

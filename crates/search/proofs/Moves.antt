@@ -3,23 +3,24 @@ use Prim.Native.Nat.{ℕ, zero, suc, _+_, _-_, _≤_, _<_}
 use mathlib.Core.Path.{_≡_, refl, sym, _∙_, ap}
 use mathlib.Core.Bool.{Bool, true, false, cond}
 use mathlib.Core.List.{List, [], _∷_, _++_}
+use mathlib.Core.Logic.{inl, inr, ⊎-elim}
 use native.Mathlib.Omega.{arith}
 use lib.Dec.{ltb}
 use lib.ListN.{length, getD, set}
 use borrow.Author.Tests.{lt-ltb, le-ltb, ltb-true}
 use Rattle.refusal.specs.Refusals.{maximumPathDepthExceeded, maximumSignatureChecksExceeded, maximumPathBuildCallsExceeded, maximumNameConstraintComparisonsExceeded}
 use Rattle.refusal.specs.Model.{worseOf}
-use Rattle.path.specs.Lent.{lower, pre}
+use Rattle.path.specs.Lent.{mostIntermediates, lower, pre}
 use Rattle.path.specs.declared.candidate.Verdict.{Verdict}
 use Rattle.path.specs.declared.candidate.Verdict.the-variants.{Pass, Anchor, Extend}
 use Rattle.search.specs.declared.State.{State}
 use Rattle.search.specs.declared.Phase.{Phase}
 use Rattle.search.specs.declared.Phase.the-variants.{Walk, Ask, Offer, Found, Refused, Spent}
-use Rattle.search.specs.Model.{Path, mostIntermediates, Stage, World, signatures, Event, note, extension, leave, accepted, done, offer, unless, one, enter, through, conclude, run}
-use Rattle.search.specs.Dialogue.{give}
-use Rattle.search.specs.Work.{paid}
+use Rattle.dialogue.specs.Model.{Path, Stage, World, signatures, Event, note, extension, leave, accepted, done, offer, unless, one, enter, through, conclude, run}
+use Rattle.dialogue.specs.Dialogue.{give}
+use Rattle.dialogue.specs.Work.{paid}
 use Rattle.search.specs.Levels.{under}
-use Rattle.search.specs.Machine.{left, here, onward, clearTree, wrongTree, placeOf, keyAt, whatAt, moreTree, askTree, phaseTree, treeOf, still, phaseEffort, effort, Stands, Moved, tryTree, extendTree, extendStill}
+use Rattle.search.specs.Machine.{left, here, onward, clearTree, wrongTree, placeOf, keyAt, whatAt, moreTree, askTree, phaseTree, treeOf, still, phaseEffort, effort, Stands, Kept, Pushed, Heard, Grew, One, ends, leaves, looks, pushes, Moved, tryTree, extendTree, extendStill}
 use Rattle.search.proofs.Levels.{lower-step, enter-deep, enter-refused, level-done, under-bottom, under-step, level-next, level-push}
 use Rattle.search.proofs.Steps.{unless-refused, paid-extension, run-extension, run-no-extension, through-asks, through-no-signature, conclude-no-comparison, conclude-refused, conclude-offers}
 
@@ -41,14 +42,14 @@ module _ (W : World) where
       unfolding run
       tried = ap (λ (l : List Stage). through W (λ s′. conclude W (λ x n′. run W (left W s) s′ (s .extensions) n′ (worseOf (s .best) x)) i (here s) (s .comparisons)) (λ x s′. run W (left W s) s′ (s .extensions) (s .comparisons) (worseOf (s .best) x)) l (s .signatures)) (plain i (here s))
 
-      pub try-out : s .signatures ≡ 0 → Stands W (ended (Spent maximumSignatureChecksExceeded)) (tryTree W s i) (still W s)
+      pub try-out : s .signatures ≡ 0 → Heard W s (ended (Spent maximumSignatureChecksExceeded)) (tryTree W s i) (still W s)
       unfolding phaseTree phaseEffort signatures
-      try-out h = record { same = sym (tried ∙ through-no-signature W _ _ i _ _ (s .signatures) h); deep = deep; most = omega arith }
+      try-out h = record { same = sym (tried ∙ through-no-signature W _ _ i _ _ (s .signatures) h); deep = deep; most = omega arith; kept = record { path = refl; next = refl; depth = refl } }
 
       abbrev asking : State
       asking = record { path = s .path; next = s .next; depth = s .depth; at = s .depth; anchor = i; signatures = s .signatures - 1; extensions = s .extensions; comparisons = s .comparisons; best = s .best; phase = Ask }
 
-      pub try-asks : (s .signatures ≡ 0 → ⊥) → Stands W asking (tryTree W s i) (still W s)
+      pub try-asks : (s .signatures ≡ 0 → ⊥) → Heard W s asking (tryTree W s i) (still W s)
       unfolding phaseTree phaseEffort signatures
       try-asks h =
           let top : ltb (s .depth) (s .depth) ≡ false = le-ltb (s .depth) (s .depth) (omega arith) in
@@ -58,6 +59,7 @@ module _ (W : World) where
                 ∙ through-asks W _ _ i _ _ (s .signatures) h ∙ sym tried;
             deep = deep;
             most = omega arith;
+            kept = record { path = refl; next = refl; depth = refl };
           }
 
     -- ---- an extension
@@ -65,15 +67,15 @@ module _ (W : World) where
       abbrev rest : List Event
       rest = enter W (mostIntermediates - s .depth) (i ∷ here s) ++ left W s
 
-      pub extend-out : s .extensions ≡ 0 → Stands W (ended (Spent maximumPathBuildCallsExceeded)) (extendTree W s i) (extendStill W s i)
+      pub extend-out : s .extensions ≡ 0 → Grew W s (ended (Spent maximumPathBuildCallsExceeded)) i (extendTree W s i) (extendStill W s i)
       unfolding phaseTree phaseEffort
-      extend-out h = record { same = sym (run-no-extension W rest (s .signatures) (s .extensions) (s .comparisons) (s .best) h); deep = deep; most = omega arith }
+      extend-out h = record { same = sym (run-no-extension W rest (s .signatures) (s .extensions) (s .comparisons) (s .best) h); deep = deep; most = omega arith; grew = inl (record { path = refl; next = refl; depth = refl }) }
 
       module _ (pays : s .extensions ≡ 0 → ⊥) where
         abbrev failing : ℕ → State
         failing e = record { path = s .path; next = s .next; depth = s .depth; at = s .at; anchor = s .anchor; signatures = s .signatures; extensions = s .extensions - 1; comparisons = s .comparisons; best = e; phase = s .phase }
 
-        failed : (x b : ℕ) → b ≡ worseOf (s .best) x → enter W (mostIntermediates - s .depth) (i ∷ here s) ≡ note x ∷ [] → Stands W (failing b) (extendTree W s i) (extendStill W s i)
+        failed : (x b : ℕ) → b ≡ worseOf (s .best) x → enter W (mostIntermediates - s .depth) (i ∷ here s) ≡ note x ∷ [] → Grew W s (failing b) i (extendTree W s i) (extendStill W s i)
         unfolding phaseTree phaseEffort run paid
         failed x b e h =
             let list : rest ≡ note x ∷ left W s = ap (λ (l : List Event). l ++ left W s) h in
@@ -87,18 +89,19 @@ module _ (W : World) where
                   ∙ run-extension W rest (s .signatures) (s .extensions) (s .comparisons) (s .best) pays;
               deep = deep;
               most = omega (arith, paid-extension (λ ev. 1) rest (s .extensions) pays);
+              grew = inl (record { path = refl; next = refl; depth = refl });
             }
 
-        pub extend-deep : (b : ℕ) → b ≡ worseOf (s .best) maximumPathDepthExceeded → s .depth ≡ mostIntermediates → Stands W (failing b) (extendTree W s i) (extendStill W s i)
+        pub extend-deep : (b : ℕ) → b ≡ worseOf (s .best) maximumPathDepthExceeded → s .depth ≡ mostIntermediates → Grew W s (failing b) i (extendTree W s i) (extendStill W s i)
         extend-deep b e h = failed maximumPathDepthExceeded b e (enter-deep W (mostIntermediates - s .depth) (i ∷ here s) (omega arith))
 
-        pub extend-refused : (x b : ℕ) → b ≡ worseOf (s .best) x → (s .depth ≡ mostIntermediates → ⊥) → W .check (i ∷ here s) ≡ x → (x ≡ 0 → ⊥) → Stands W (failing b) (extendTree W s i) (extendStill W s i)
+        pub extend-refused : (x b : ℕ) → b ≡ worseOf (s .best) x → (s .depth ≡ mostIntermediates → ⊥) → W .check (i ∷ here s) ≡ x → (x ≡ 0 → ⊥) → Grew W s (failing b) i (extendTree W s i) (extendStill W s i)
         extend-refused x b e h k z = failed x b e (enter-refused W (mostIntermediates - s .depth) (i ∷ here s) x (omega arith) k z)
 
         abbrev pushed : State
         pushed = record { path = set (s .path) (s .depth + 1) i; next = set (s .next) (s .depth + 1) 0; depth = s .depth + 1; at = s .at; anchor = s .anchor; signatures = s .signatures; extensions = s .extensions - 1; comparisons = s .comparisons; best = s .best; phase = s .phase }
 
-        pub extend-goes : length (s .path) ≡ 7 → length (s .next) ≡ 7 → (s .depth ≡ mostIntermediates → ⊥) → W .check (i ∷ here s) ≡ 0 → Stands W pushed (extendTree W s i) (extendStill W s i)
+        pub extend-goes : length (s .path) ≡ 7 → length (s .next) ≡ 7 → (s .depth ≡ mostIntermediates → ⊥) → W .check (i ∷ here s) ≡ 0 → Grew W s pushed i (extendTree W s i) (extendStill W s i)
         unfolding phaseTree phaseEffort
         extend-goes lp ln room k =
             let list : rest ≡ left W pushed = level-push W (s .path) (s .next) (s .depth) i (omega arith) (omega arith) (omega arith) k in
@@ -111,6 +114,7 @@ module _ (W : World) where
                   ∙ run-extension W rest (s .signatures) (s .extensions) (s .comparisons) (s .best) pays;
               deep = omega arith;
               most = omega (arith, paid-extension (λ ev. 1) rest (s .extensions) pays);
+              grew = inr (record { path = refl; next = refl; depth = refl });
             }
 
     -- ---- a move of the walk
@@ -134,6 +138,8 @@ module _ (W : World) where
                   ∙ ap (phaseTree W s) (sym walks);
               deep = deep;
               less = omega (arith, mine);
+              walks = walks;
+              one = ends (record { path = refl; next = refl; depth = refl }) z refl;
             }
 
         abbrev popped : State
@@ -152,6 +158,8 @@ module _ (W : World) where
                   ∙ ap (phaseTree W s) (sym walks);
               deep = omega arith;
               less = omega (arith, mine);
+              walks = walks;
+              one = leaves refl refl (omega (arith, z));
             }
 
       module _ (some : getD (s .next) (s .depth) 0 < W .candidates) (ln : length (s .next) ≡ 7) where
@@ -164,28 +172,32 @@ module _ (W : World) where
         ahead : (v : Verdict) → W .verdict (here s) i ≡ v → left W s ≡ one (enter W (mostIntermediates - s .depth)) (here s) i v ++ left W stepped
         ahead v e = level-next W (s .path) (s .next) (s .depth) v some (omega arith) e
 
-        moved : (r : State) (es : List Event) → left W s ≡ es → Stands W r (run W es (s .signatures) (s .extensions) (s .comparisons) (s .best)) (paid (λ ev. 1) es (s .extensions) - 1) → 0 < paid (λ ev. 1) es (s .extensions) → Moved W s r
+        moved : (r : State) (es : List Event) → left W s ≡ es → Stands W r (run W es (s .signatures) (s .extensions) (s .comparisons) (s .best)) (paid (λ ev. 1) es (s .extensions) - 1) → 0 < paid (λ ev. 1) es (s .extensions) → One s r → Moved W s r
         unfolding phaseTree
-        moved r es e h l =
+        moved r es e h l o =
             let all : still W s ≡ paid (λ ev. 1) es (s .extensions) = ap (λ (z : List Event). paid (λ ev. 1) z (s .extensions)) e in
             record {
               same = h .same ∙ ap (λ (z : List Event). run W z (s .signatures) (s .extensions) (s .comparisons) (s .best)) (sym e) ∙ ap (phaseTree W s) (sym walks);
               deep = h .deep;
               less = omega (arith, mine, h .most);
+              walks = walks;
+              one = o;
             }
 
-        pub tries : (r : State) → W .verdict (here s) i ≡ Anchor → Stands W r (tryTree W stepped i) (still W stepped) → Moved W s r
+        pub tries : (r : State) → W .verdict (here s) i ≡ Anchor → Heard W stepped r (tryTree W stepped i) (still W stepped) → Moved W s r
         unfolding one paid
-        tries r e h = moved r _ (ahead Anchor e) (record { same = h .same; deep = h .deep; most = omega (arith, h .most) }) (omega arith)
+        tries r e h = moved r _ (ahead Anchor e) (record { same = h .same; deep = h .deep; most = omega (arith, h .most) }) (omega arith) (looks (h .kept .path) (h .kept .next) (h .kept .depth))
 
         positive : (es : List Event) (b : ℕ) → 0 < paid (λ ev. 1) (extension ∷ es) b
         unfolding paid
         positive es zero = omega arith
         positive es (suc b) = omega arith
 
-        pub extends : (r : State) → W .verdict (here s) i ≡ Extend → Stands W r (extendTree W stepped i) (extendStill W stepped i) → Moved W s r
+        pub extends : (r : State) → W .verdict (here s) i ≡ Extend → Grew W stepped r i (extendTree W stepped i) (extendStill W stepped i) → Moved W s r
         unfolding one
-        extends r e h = moved r _ (ahead Extend e) h (positive _ (s .extensions))
+        extends r e h =
+            moved r _ (ahead Extend e) (record { same = h .same; deep = h .deep; most = h .most }) (positive _ (s .extensions))
+            (⊎-elim (λ (k : Kept stepped r). looks (k .path) (k .next) (k .depth)) (λ (k : Pushed stepped r i). pushes (k .path) (k .next) (k .depth)) (h .grew))
 
         abbrev noting : ℕ → State
         noting b = record { path = s .path; next = set (s .next) (s .depth) (getD (s .next) (s .depth) 0 + 1); depth = s .depth; at = s .at; anchor = s .anchor; signatures = s .signatures; extensions = s .extensions; comparisons = s .comparisons; best = b; phase = s .phase }
@@ -195,7 +207,7 @@ module _ (W : World) where
         notes x b q e =
             let its : phaseEffort W (noting b) (s .phase) ≡ paid (λ ev. 1) (left W stepped) (s .extensions) = ap (phaseEffort W (noting b)) walks in
             moved (noting b) _ (ahead (Pass x) e)
-            (record { same = ap (phaseTree W (noting b)) walks ∙ ap (λ (n : ℕ). onward W stepped (s .signatures) (s .comparisons) n) q; deep = deep; most = omega arith }) (omega arith)
+            (record { same = ap (phaseTree W (noting b)) walks ∙ ap (λ (n : ℕ). onward W stepped (s .signatures) (s .comparisons) n) q; deep = deep; most = omega arith }) (omega arith) (looks refl refl refl)
 
     -- ---- an answer
     abbrev walking : ℕ → State
@@ -212,7 +224,7 @@ module _ (W : World) where
           ap (λ (n : ℕ). unless n (moreTree W s (placeOf s)) (λ y. wrongTree W s y (s .signatures))) (sym y)
           ∙ ap (λ (p : Phase). give (phaseTree W s p) a) (sym asks)
 
-      pub denied : (x b : ℕ) → W .reply (keyAt s) (whatAt s) a ≡ x → (x ≡ 0 → ⊥) → b ≡ worseOf (s .best) x → Stands W (walking b) (give (treeOf W s) a) (effort W s)
+      pub denied : (x b : ℕ) → W .reply (keyAt s) (whatAt s) a ≡ x → (x ≡ 0 → ⊥) → b ≡ worseOf (s .best) x → Heard W s (walking b) (give (treeOf W s) a) (effort W s)
       unfolding phaseTree phaseEffort
       denied x b y z e =
           record {
@@ -222,6 +234,7 @@ module _ (W : World) where
                 ∙ replied x y;
             deep = deep;
             most = omega (arith, its);
+            kept = record { path = refl; next = refl; depth = refl };
           }
 
       module _ (yes : W .reply (keyAt s) (whatAt s) a ≡ 0) where
@@ -233,15 +246,19 @@ module _ (W : World) where
           unfolding lower signatures through
           settled = ap (λ (n : ℕ). moreTree W s n) (sym last) ∙ agreed
 
-          pub names-out : s .comparisons < W .cost (s .anchor) (here s) → Stands W (ended (Spent maximumNameConstraintComparisonsExceeded)) (give (treeOf W s) a) (effort W s)
+          -- what is left of the comparisons makes no difference any more
+          abbrev exhausted : ℕ → State
+          exhausted n = record { path = s .path; next = s .next; depth = s .depth; at = s .at; anchor = s .anchor; signatures = s .signatures; extensions = s .extensions; comparisons = n; best = s .best; phase = Spent maximumNameConstraintComparisonsExceeded }
+
+          pub names-out : (n : ℕ) → s .comparisons < W .cost (s .anchor) (here s) → Heard W s (exhausted n) (give (treeOf W s) a) (effort W s)
           unfolding phaseTree phaseEffort
-          names-out h = record { same = sym (conclude-no-comparison W _ (s .anchor) (here s) (s .comparisons) h) ∙ settled; deep = deep; most = omega arith }
+          names-out n h = record { same = sym (conclude-no-comparison W _ (s .anchor) (here s) (s .comparisons) h) ∙ settled; deep = deep; most = omega arith; kept = record { path = refl; next = refl; depth = refl } }
 
           module _ (q : ℕ) (cost : q ≡ s .comparisons - W .cost (s .anchor) (here s)) (fits : W .cost (s .anchor) (here s) ≤ s .comparisons) where
             abbrev misnamed : ℕ → State
             misnamed b = record { path = s .path; next = s .next; depth = s .depth; at = s .at; anchor = s .anchor; signatures = s .signatures; extensions = s .extensions; comparisons = q; best = b; phase = Walk }
 
-            pub names-refused : (y b : ℕ) → W .named (s .anchor) (here s) ≡ y → (y ≡ 0 → ⊥) → b ≡ worseOf (s .best) y → Stands W (misnamed b) (give (treeOf W s) a) (effort W s)
+            pub names-refused : (y b : ℕ) → W .named (s .anchor) (here s) ≡ y → (y ≡ 0 → ⊥) → b ≡ worseOf (s .best) y → Heard W s (misnamed b) (give (treeOf W s) a) (effort W s)
             unfolding phaseTree phaseEffort
             names-refused y b e z w =
                 record {
@@ -252,12 +269,13 @@ module _ (W : World) where
                       ∙ settled;
                   deep = deep;
                   most = omega (arith, its);
+                  kept = record { path = refl; next = refl; depth = refl };
                 }
 
             abbrev offering : State
             offering = record { path = s .path; next = s .next; depth = s .depth; at = s .at; anchor = s .anchor; signatures = s .signatures; extensions = s .extensions; comparisons = q; best = s .best; phase = Offer }
 
-            pub names-clear : W .named (s .anchor) (here s) ≡ 0 → Stands W offering (give (treeOf W s) a) (effort W s)
+            pub names-clear : W .named (s .anchor) (here s) ≡ 0 → Heard W s offering (give (treeOf W s) a) (effort W s)
             unfolding phaseTree phaseEffort
             names-clear e =
                 record {
@@ -267,22 +285,23 @@ module _ (W : World) where
                       ∙ settled;
                   deep = deep;
                   most = omega (arith, its);
+                  kept = record { path = refl; next = refl; depth = refl };
                 }
 
         module _ (more : placeOf s ≡ 0 → ⊥) where
           goes-on : through W (clearTree W s) (wrongTree W s) (signatures (whatAt s) (pre (s .path) (placeOf s - 1))) (s .signatures) ≡ give (treeOf W s) a
           goes-on = ap (λ (l : Path). through W (clearTree W s) (wrongTree W s) (signatures (whatAt s) l) (s .signatures)) (sym (lower-step (s .path) (placeOf s) more)) ∙ agreed
 
-          pub no-signature : s .signatures ≡ 0 → Stands W (ended (Spent maximumSignatureChecksExceeded)) (give (treeOf W s) a) (effort W s)
+          pub no-signature : s .signatures ≡ 0 → Heard W s (ended (Spent maximumSignatureChecksExceeded)) (give (treeOf W s) a) (effort W s)
           unfolding phaseTree phaseEffort signatures
           no-signature z =
-              record { same = sym (through-no-signature W (clearTree W s) (wrongTree W s) (whatAt s) _ _ (s .signatures) z) ∙ goes-on; deep = deep; most = omega arith }
+              record { same = sym (through-no-signature W (clearTree W s) (wrongTree W s) (whatAt s) _ _ (s .signatures) z) ∙ goes-on; deep = deep; most = omega arith; kept = record { path = refl; next = refl; depth = refl } }
 
           abbrev lowered : ℕ → State
           lowered m = record { path = s .path; next = s .next; depth = s .depth; at = m; anchor = s .anchor; signatures = s .signatures - 1; extensions = s .extensions; comparisons = s .comparisons; best = s .best; phase = Ask }
 
           -- the question after this one is about the certificate below, with this one's key
-          pub asks-on : (m : ℕ) → m ≡ placeOf s - 1 → (s .signatures ≡ 0 → ⊥) → Stands W (lowered m) (give (treeOf W s) a) (effort W s)
+          pub asks-on : (m : ℕ) → m ≡ placeOf s - 1 → (s .signatures ≡ 0 → ⊥) → Heard W s (lowered m) (give (treeOf W s) a) (effort W s)
           unfolding phaseTree phaseEffort signatures
           asks-on m e z =
               let inside : ltb m (s .depth) ≡ true = lt-ltb m (s .depth) (omega (arith, place-most s)) in
@@ -296,9 +315,10 @@ module _ (W : World) where
                     ∙ goes-on;
                 deep = deep;
                 most = omega (arith, its);
+                kept = record { path = refl; next = refl; depth = refl };
               }
 
-    pub vetoed : (x b : ℕ) → s .phase ≡ Offer → (x ≡ 0 → ⊥) → b ≡ worseOf (s .best) x → Stands W (walking b) (give (treeOf W s) x) (effort W s)
+    pub vetoed : (x b : ℕ) → s .phase ≡ Offer → (x ≡ 0 → ⊥) → b ≡ worseOf (s .best) x → Heard W s (walking b) (give (treeOf W s) x) (effort W s)
     unfolding phaseTree phaseEffort give
     vetoed x b h z e =
         let its : effort W s ≡ still W s = ap (phaseEffort W s) h in
@@ -309,17 +329,18 @@ module _ (W : World) where
               ∙ ap (λ (p : Phase). give (phaseTree W s p) x) (sym h);
           deep = deep;
           most = omega arith;
+          kept = record { path = refl; next = refl; depth = refl };
         }
 
-    pub taken : (x : ℕ) → s .phase ≡ Offer → x ≡ 0 → Stands W (ended Found) (give (treeOf W s) x) (effort W s)
+    pub taken : (x : ℕ) → s .phase ≡ Offer → x ≡ 0 → Heard W s (ended Found) (give (treeOf W s) x) (effort W s)
     unfolding phaseTree phaseEffort give
     taken x h z =
-        record { same = ap (λ (p : Phase). give (phaseTree W s p) 0) (sym h) ∙ ap (give (treeOf W s)) (sym z); deep = deep; most = omega arith }
+        record { same = ap (λ (p : Phase). give (phaseTree W s p) 0) (sym h) ∙ ap (give (treeOf W s)) (sym z); deep = deep; most = omega arith; kept = record { path = refl; next = refl; depth = refl } }
 
     -- a state that has ended stays
-    pub idle : (x : ℕ) → (s .phase ≡ Walk → ⊥) → (s .phase ≡ Ask → ⊥) → (s .phase ≡ Offer → ⊥) → Stands W s (give (treeOf W s) x) (effort W s)
+    pub idle : (x : ℕ) → (s .phase ≡ Walk → ⊥) → (s .phase ≡ Ask → ⊥) → (s .phase ≡ Offer → ⊥) → Heard W s s (give (treeOf W s) x) (effort W s)
     unfolding phaseTree give
-    idle x w k o = record { same = by (s .phase) w k o; deep = deep; most = omega arith }
+    idle x w k o = record { same = by (s .phase) w k o; deep = deep; most = omega arith; kept = record { path = refl; next = refl; depth = refl } }
       where
         by : (p : Phase) → (p ≡ Walk → ⊥) → (p ≡ Ask → ⊥) → (p ≡ Offer → ⊥) → phaseTree W s p ≡ give (phaseTree W s p) x
         by Walk w k o = absurd (w refl)

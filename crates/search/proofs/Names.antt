@@ -1,12 +1,13 @@
 -- No check of name constraints refuses with the number that says that a budget is used up: what such a number says is that the budget was. Assumes nothing.
-use Prim.Native.Nat.{ℕ, zero, suc, _-_, _*_, _<_}
+use Prim.Native.Nat.{ℕ, zero, suc, _-_, _*_}
 use mathlib.Core.Path.{_≡_}
 use mathlib.Core.Bool.{Bool, true, false, cond}
 use mathlib.Core.List.{List, [], _∷_}
 use native.Mathlib.Omega.{arith}
 use lib.Dec.{ltb, leb, eqb}
 use lib.ListN.{length, getD, take, drop}
-use Rattle.refusal.specs.Refusals.{badDer, maximumSignatureChecksExceeded, maximumNameConstraintComparisonsExceeded}
+use Rattle.refusal.specs.Refusals.{badDer, maximumNameConstraintComparisonsExceeded}
+use Rattle.refusal.proofs.Laws.{Mild}
 use Rattle.der.specs.declared.Read.{Read}
 use Rattle.der.specs.declared.Read.the-variants.{Value, Refused as NoValue}
 use Rattle.der.specs.declared.Got.{Got}
@@ -18,13 +19,14 @@ use Rattle.cert.specs.declared.Certificate.{Certificate}
 use Rattle.cert.specs.declared.Reading.{Reading}
 use Rattle.cert.specs.declared.Reading.the-variants.{Accepted, Refused as NotRead}
 use Rattle.cert.specs.Model.{readCertificate}
-use Rattle.names.specs.declared.Answer.{Answer}
-use Rattle.names.specs.declared.Answer.the-variants.{Yes, No, Refused as NoAnswer}
+use Rattle.dns.specs.declared.Answer.{Answer}
+use Rattle.dns.specs.declared.Answer.the-variants.{Yes, No, Refused as NoAnswer}
 use Rattle.names.specs.declared.ip.Masked.{Masked}
 use Rattle.names.specs.declared.ip.Masked.the-variants.{Same, Differs, Broken}
 use Rattle.names.specs.declared.general.Name.{Name}
 use Rattle.names.specs.declared.general.Name.the-variants.{Found, Refused as NoName}
-use Rattle.names.specs.Model.{validPresented, validEntry, inSubtree, meetsSubtree, yesIf, neither, maskedByte, onMasked, subnetFrom, matchPermitted, matchExcluded, matchSubnet, isKind, ofKind, generalName}
+use Rattle.dns.specs.Model.{validPresented, validEntry, inSubtree, meetsSubtree, yesIf, matchPermitted, matchExcluded}
+use Rattle.names.specs.Model.{neither, maskedByte, onMasked, subnetFrom, matchSubnet, isKind, ofKind, generalName}
 use Rattle.constraints.specs.declared.Subtrees.{Subtrees}
 use Rattle.constraints.specs.declared.Lists.{Lists}
 use Rattle.constraints.specs.declared.Lists.the-variants.{Are, Refused as NoLists}
@@ -35,12 +37,8 @@ use Rattle.constraints.specs.declared.entries.Step.{Step}
 use Rattle.constraints.specs.declared.entries.Step.the-variants.{Next, Stop}
 use Rattle.constraints.specs.Tally.{Tally, tally, clean, after}
 use Rattle.constraints.specs.Model.{onName, baseAt, compared, settled, onBase, judged, unseen, closed, ended, goOn, entries, listAt, subtreesAt, name, nextName, alternatives, onRead, certificate, below, onLists, constraints, own, anchored, issuers, pathConstraints}
-use Rattle.search.specs.Model.{Path}
+use Rattle.dialogue.specs.Model.{Path}
 use Rattle.search.specs.World.{namesOf}
-
--- below the numbers of used-up budgets
-abbrev Mild : ℕ → Type 0
-Mild e = e < maximumSignatureChecksExceeded
 
 abbrev MildAnswer : Answer → Type 0
 MildAnswer Yes = Unit {0}

@@ -5,8 +5,8 @@ use mathlib.Core.List.{List, _∷_}
 use native.Mathlib.Omega.{arith}
 use borrow.Author.Tests.{lt-ltb, le-ltb}
 use Rattle.refusal.specs.Refusals.{maximumSignatureChecksExceeded, maximumPathBuildCallsExceeded, maximumNameConstraintComparisonsExceeded}
-use Rattle.search.specs.Model.{Path, Stage, question, World, Event, extension, accepted, spent, Tree, done, ask, offer, unless, through, conclude, run}
-use Rattle.search.specs.Work.{paid}
+use Rattle.dialogue.specs.Model.{Path, Stage, question, World, Event, extension, accepted, spent, Tree, done, ask, offer, unless, through, conclude, run}
+use Rattle.dialogue.specs.Work.{paid}
 
 pub unless-refused : (t : Tree) (f : ℕ → Tree) (e : ℕ) → (e ≡ 0 → ⊥) → unless e t f ≡ f e
 unless-refused t f zero h = absurd (h refl)

@@ -7,16 +7,15 @@ use Rattle.refusal.specs.Refusals.{unknownIssuer}
 use Rattle.refusal.specs.Model.{worseOf}
 use Rattle.search.specs.declared.State.{State}
 use Rattle.search.specs.declared.Phase.the-variants.{Walk, Found, Refused, Spent}
-use Rattle.search.specs.Model.{World, Event, Outcome, Tree, done, accepted, refused, spent, events, run, search}
-use Rattle.search.specs.Dialogue.{give, follow, talk}
-use Rattle.search.specs.Work.{paid}
-use Rattle.search.specs.Conditions.{Certificates, Shows}
-use Rattle.search.specs.Decided.{Decided}
-use Rattle.search.specs.Machine.{left, here, phaseTree, treeOf, phaseEffort, effort, Stands, Halted, Started, Ran, begin, move, reply, begun}
-use Rattle.search.proofs.Answers.{followed, follow-more}
+use Rattle.dialogue.specs.Model.{World, Event, Outcome, Tree, done, accepted, refused, spent, events, run, search}
+use Rattle.dialogue.specs.Dialogue.{give, follow, talk}
+use Rattle.dialogue.specs.Work.{paid}
+use Rattle.dialogue.specs.Decided.{Decided}
+use Rattle.search.specs.Machine.{left, here, phaseTree, treeOf, phaseEffort, effort, Stands, Heard, Halted, Started, Ran, begin, move, reply, begun}
+use Rattle.dialogue.proofs.Answers.{followed, follow-more}
 use Rattle.search.proofs.Levels.{events-start, events-refused}
-use Rattle.search.proofs.Work.{all-events}
-use Rattle.search.proofs.Decided.{decided}
+use Rattle.dialogue.proofs.Work.{all-events}
+use Rattle.dialogue.proofs.Decided.{decided}
 
 module _ (W : World) where
   -- ---- the start
@@ -53,7 +52,7 @@ module _ (W : World) where
   ran-bound (reply a h m) = omega (arith, ran-bound h, m .most)
 
   -- an answer, and the walk after it
-  pub answered : (s t r : State) (a : ℕ) → Stands W t (give (treeOf W s) a) (effort W s) → Halted W t r [] (treeOf W t) (effort W t)
+  pub answered : (s t r : State) (a : ℕ) → Heard W s t (give (treeOf W s) a) (effort W s) → Halted W t r [] (treeOf W t) (effort W t)
       → Halted W s r (a ∷ []) (give (treeOf W s) a) (effort W s)
   answered s t r a m h = record {
     same = h .same ∙ m .same;
@@ -77,7 +76,7 @@ module _ (W : World) where
           deep = h .deep;
           most = omega (arith, h .most, m .most);
           halts = h .halts;
-          first = begun end s b n Walk;
+          phase = Walk;
           begins = m;
           moves = k .0;
           ran = k .1;
@@ -91,7 +90,7 @@ module _ (W : World) where
           deep = m .deep;
           most = m .most;
           halts = λ q. let y : _≡_ {A = ℕ} 0 1 = cc in omega arith;
-          first = begun end s b n (Refused e);
+          phase = Refused e;
           begins = m;
           moves = 0;
           ran = begin;
@@ -115,7 +114,7 @@ module _ (W : World) where
     pub few-moves : moves ≤ suc (W .candidates) * suc b
     few-moves = omega (arith, start .most, ran-bound ran)
 
-    pub decides : (C : Certificates) → Shows C W → (q : Outcome) → treeOf W r ≡ done q → Decided C W end s b n (talk (search W end s b n) said) q
-    decides C shows q h =
-        decided C W shows end s b n (talk (search W end s b n) said) q
+    pub decides : (q : Outcome) → treeOf W r ≡ done q → Decided W end s b n (talk (search W end s b n) said) q
+    decides q h =
+        decided W end s b n (talk (search W end s b n) said) q
         (followed (search W end s b n) said q (ap (λ (u : Tree). follow u said) (sym (start .same)) ∙ sym (ran-same ran) ∙ h))

@@ -3,8 +3,8 @@
 use Prim.Native.Nat.{ℕ, zero, suc, _-_}
 use mathlib.Core.List.{List, [], _∷_, _++_}
 use lib.ListN.{getD}
-use Rattle.path.specs.Lent.{pre}
-use Rattle.search.specs.Model.{mostIntermediates, World, Event, leave, each, enter}
+use Rattle.path.specs.Lent.{mostIntermediates, pre}
+use Rattle.dialogue.specs.Model.{World, Event, leave, each, enter}
 
 -- the events of the candidates that are left at level d
 abbrev pub level : World → List ℕ → List ℕ → ℕ → List Event

@@ -1,13 +1,3 @@
-pub mod Model
-pub mod Dialogue
-pub mod Account
-pub mod Acceptable
-pub mod Conditions
-pub mod Candidates
-pub mod Recursion
 pub mod Levels
-pub mod Work
 pub mod Machine
 pub mod World
-pub mod Request
-pub mod Decided

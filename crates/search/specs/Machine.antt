@@ -3,17 +3,18 @@ use Prim.Native.Nat.{ℕ, suc, _+_, _-_, _*_, _≤_, _<_}
 use mathlib.Core.Path.{_≡_}
 use mathlib.Core.Bool.{cond}
 use mathlib.Core.List.{List, [], _∷_, _++_}
+use mathlib.Core.Logic.{_⊎_}
 use lib.Dec.{ltb}
-use lib.ListN.{getD}
+use lib.ListN.{getD, set}
 use Rattle.refusal.specs.Refusals.{unknownIssuer}
 use Rattle.refusal.specs.Model.{worseOf}
-use Rattle.path.specs.Lent.{lower, pre}
+use Rattle.path.specs.Lent.{mostIntermediates, lower, pre}
 use Rattle.search.specs.declared.State.{State}
 use Rattle.search.specs.declared.Phase.{Phase}
 use Rattle.search.specs.declared.Phase.the-variants.{Walk, Ask, Offer, Found, Refused, Spent}
-use Rattle.search.specs.Model.{Path, mostIntermediates, World, signatures, Event, extension, try, accepted, refused, spent, Tree, done, ask, offer, unless, enter, through, conclude, run, search}
-use Rattle.search.specs.Dialogue.{give}
-use Rattle.search.specs.Work.{paid}
+use Rattle.dialogue.specs.Model.{Path, World, signatures, Event, extension, try, accepted, refused, spent, Tree, done, ask, offer, unless, enter, through, conclude, run, search}
+use Rattle.dialogue.specs.Dialogue.{give}
+use Rattle.dialogue.specs.Work.{paid}
 use Rattle.search.specs.Levels.{remaining}
 
 abbrev pub left : World → State → List Event
@@ -84,8 +85,50 @@ pub record Stands (W : World) (r : State) (t : Tree) (n : ℕ) : Type 0 where
   pub deep : r .depth < 7
   pub most : effort W r ≤ n
 
--- r stands for what s stands for, with fewer events left: so a walk ends, and all moves of a run are at most the events of the search
+-- r is where s is: the same path, and at each level the same next candidate
+pub record Kept (s r : State) : Type 0 where
+  pub path : r .path ≡ s .path
+  pub next : r .next ≡ s .next
+  pub depth : r .depth ≡ s .depth
+
+-- r is at the path of s with i on top, where no candidate was looked at yet
+pub record Pushed (s r : State) (i : ℕ) : Type 0 where
+  pub path : r .path ≡ set (s .path) (s .depth + 1) i
+  pub next : r .next ≡ set (s .next) (s .depth + 1) 0
+  pub depth : r .depth ≡ s .depth + 1
+
+-- the same, where r is where s is
+pub record Heard (W : World) (s r : State) (t : Tree) (n : ℕ) : Type 0 where
+  pub same : treeOf W r ≡ t
+  pub deep : r .depth < 7
+  pub most : effort W r ≤ n
+  pub kept : Kept s r
+
+-- the same, where r is where s is, or has i on top
+pub record Grew (W : World) (s r : State) (i : ℕ) (t : Tree) (n : ℕ) : Type 0 where
+  pub same : treeOf W r ≡ t
+  pub deep : r .depth < 7
+  pub most : effort W r ≤ n
+  pub grew : Kept s r ⊎ Pushed s r i
+
+-- the next candidate of a state, and where the state is when it was looked at
+abbrev pub following : State → ℕ
+following s = getD (s .next) (s .depth) 0
+
+abbrev pub passed : State → List ℕ
+passed s = set (s .next) (s .depth) (following s + 1)
+
+-- one move: the search is over at the lowest level; a level is left; the next candidate is looked at, and stays below or comes on top
+pub data One (s r : State) : Type 0 where
+  ends : Kept s r → s .depth ≡ 0 → r .phase ≡ Refused (s .best) → One s r
+  leaves : r .path ≡ s .path → r .next ≡ s .next → s .depth ≡ r .depth + 1 → One s r
+  looks : r .path ≡ s .path → r .next ≡ passed s → r .depth ≡ s .depth → One s r
+  pushes : r .path ≡ set (s .path) (s .depth + 1) (following s) → r .next ≡ set (passed s) (s .depth + 1) 0 → r .depth ≡ s .depth + 1 → One s r
+
+-- a move: r stands for what s stands for, with fewer events left. So a walk ends, and all moves of a run are at most the events of the search
 pub record Moved (W : World) (s r : State) : Type 0 where
+  pub walks : s .phase ≡ Walk
+  pub one : One s r
   pub same : treeOf W r ≡ treeOf W s
   pub deep : r .depth < 7
   pub less : effort W r < effort W s
@@ -104,11 +147,11 @@ extendTree W s i = run W (extended W s i) (s .signatures) (s .extensions) (s .co
 abbrev pub extendStill : World → State → ℕ → ℕ
 extendStill W s i = paid (λ ev. 1) (extended W s i) (s .extensions) - 1
 
--- a whole run from s on, all calls together: the state now, the answers given on the way in order, the moves made
+-- a whole run from s on, all calls together: the state now, the answers given on the way in order, the moves made. An answer makes no move
 pub data Ran (W : World) (s : State) : State → List ℕ → ℕ → Type 0 where
   begin : Ran W s s [] 0
   move : {r t : State} {said : List ℕ} {moves : ℕ} → Ran W s r said moves → Moved W r t → Ran W s t said (suc moves)
-  reply : {r t : State} {said : List ℕ} {moves : ℕ} (a : ℕ) → Ran W s r said moves → Stands W t (give (treeOf W r) a) (effort W r)
+  reply : {r t : State} {said : List ℕ} {moves : ℕ} (a : ℕ) → Ran W s r said moves → Heard W r t (give (treeOf W r) a) (effort W r)
       → Ran W s t (said ++ (a ∷ [])) moves
 
 -- the machine walked from s to r: every run that came to s comes to r
@@ -148,7 +191,7 @@ pub record Started (W : World) (end s b n : ℕ) (r : State) : Type 0 where
   pub deep : r .depth < 7
   pub most : effort W r ≤ suc (W .candidates) * suc b
   pub halts : r .phase ≡ Walk → ⊥
-  pub first : State
-  pub begins : Stands W first (search W end s b n) (suc (W .candidates) * suc b)
+  pub phase : Phase
+  pub begins : Stands W (begun end s b n phase) (search W end s b n) (suc (W .candidates) * suc b)
   pub moves : ℕ
-  pub ran : Ran W first r [] moves
+  pub ran : Ran W (begun end s b n phase) r [] moves

@@ -6,32 +6,21 @@ use mathlib.Core.List.{List, [], map}
 use lib.Dec.{ltb, eqb}
 use lib.ListN.{length, getD}
 use Rattle.refusal.specs.Refusals.{badDer, invalidSignatureForPublicKey, unsupportedSignatureAlgorithm, unsupportedSignatureAlgorithmForPublicKey}
-use Rattle.cert.specs.declared.key.Key.{Key}
-use Rattle.cert.specs.declared.key.Key.the-variants.{Parts, Refused as NoKey}
 use Rattle.path.specs.Lent.{certificateOf}
-use Rattle.path.specs.Model.{firstOf, checkOn, verdictOn, keyOf}
+use Rattle.path.specs.Model.{checkOn, verdictOn, replyOf}
 use Rattle.constraints.specs.Tally.{Tally}
 use Rattle.constraints.specs.Model.{pathConstraints}
-use Rattle.search.specs.Model.{Path, World, signatures}
+use Rattle.dialogue.specs.Model.{Path, World, signatures}
 
 -- ---- answers
--- why a key cannot be read, if it cannot
-unfoldable pub keyFault : Key → ℕ
-keyFault (Parts algorithm bits) = 0
-keyFault (NoKey e) = e
-
--- what an answer comes to. 4 says that the key cannot be read: the reason is found here, and is a general one where there is none
-unfoldable pub replyOf : List (List ℕ) → List ℕ → List (List ℕ) → ℕ → ℕ → ℕ → ℕ
-replyOf issuers end keys anchors key answer =
+-- the refusal that an answer stands for, or none. 4 says that the key cannot be read: a general refusal, unless the key has a better
+unfoldable pub meaningOf : ℕ → ℕ
+meaningOf answer =
     cond (eqb answer 0)
     0
     (cond (eqb answer 2)
     unsupportedSignatureAlgorithm
-    (cond (eqb answer 3)
-    unsupportedSignatureAlgorithmForPublicKey
-    (cond (eqb answer 4)
-    (firstOf (keyFault (keyOf issuers end keys anchors key)) badDer)
-    invalidSignatureForPublicKey)))
+    (cond (eqb answer 3) unsupportedSignatureAlgorithmForPublicKey (cond (eqb answer 4) badDer invalidSignatureForPublicKey)))
 
 -- ---- name constraints
 -- a candidate's number without the anchors before it; what is no intermediate's is past them all
@@ -56,13 +45,13 @@ worldOf issuers end subjects keys constraints bound distrusted time wanted deman
       verdict = verdictOn issuers end subjects keys distrusted;
       check = checkOn issuers end anchors distrusted time wanted demanded;
       stages = signatures;
-      reply = λ key what answer. replyOf issuers end keys anchors key answer;
+      reply = λ key what answer. replyOf issuers end keys anchors key (meaningOf answer);
       cost = λ anchor path. namesOf issuers end anchors constraints bound anchor path .taken;
       named = λ anchor path. namesOf issuers end anchors constraints bound anchor path .refusal;
     }
 
 -- the parts of a world that an answer is judged by
 pub record Judges (W : World) (issuers : List (List ℕ)) (end : List ℕ) (keys constraints : List (List ℕ)) (bound : List ℕ) (anchors : ℕ) : Type 0 where
-  pub reply : (key what answer : ℕ) → W .reply key what answer ≡ replyOf issuers end keys anchors key answer
+  pub reply : (key what answer : ℕ) → W .reply key what answer ≡ replyOf issuers end keys anchors key (meaningOf answer)
   pub cost : (anchor : ℕ) (path : Path) → W .cost anchor path ≡ namesOf issuers end anchors constraints bound anchor path .taken
   pub named : (anchor : ℕ) (path : Path) → W .named anchor path ≡ namesOf issuers end anchors constraints bound anchor path .refusal

@@ -4,7 +4,7 @@ ghost use mathlib.Core.List.{[], _∷_, map};
 ghost use lib.ListN.{length};
 ghost use Prim.Native.Nat.{_+_, _<_};
 ghost use Rattle.search.specs.declared.Phase.the-variants.{Walk};
-ghost use Rattle.search.specs.Dialogue.{give};
+ghost use Rattle.dialogue.specs.Dialogue.{give};
 ghost use Rattle.search.specs.Machine.{keyAt, whatAt, placeOf, treeOf, effort, Halted, Started};
 ghost use Rattle.search.specs.World.{worldOf};
 

@@ -1,7 +1,6 @@
 // What an answer does to a state, before the walk goes on.
 use crate::Phase;
 use crate::State;
-use cert::key::Key;
 use constraints::Spent;
 ghost use mathlib.Core.Path.{_≡_};
 ghost use mathlib.Core.List.{List, map};
@@ -10,31 +9,14 @@ ghost use Prim.Native.Nat.{ℕ, _<_};
 ghost use Rattle.path.specs.Lent.{pre};
 ghost use Rattle.constraints.specs.Tally.{spend};
 ghost use Rattle.search.specs.declared.Phase.the-variants.{Walk, Ask, Offer};
-ghost use Rattle.search.specs.Model.{World};
-ghost use Rattle.search.specs.Dialogue.{give};
-ghost use Rattle.search.specs.Machine.{placeOf, keyAt, whatAt, treeOf, effort, Stands};
-ghost use Rattle.search.specs.World.{keyFault, replyOf, loweredOf, isBound, namesOf, Judges};
+ghost use Rattle.dialogue.specs.Model.{World};
+ghost use Rattle.dialogue.specs.Dialogue.{give};
+ghost use Rattle.search.specs.Machine.{placeOf, keyAt, whatAt, treeOf, effort, Heard};
+ghost use Rattle.search.specs.World.{meaningOf, loweredOf, isBound, namesOf, Judges};
 
-// Why a key cannot be read; 0 where it can.
-fn key_fault(key: Key) -> u16
-    ensures { λ r. ⌜ r ≡ keyFault key ⌝ }
-{
-    match key {
-        Key::Parts { .. } => 0,
-        Key::Refused(e) => e,
-    }
-}
-
-// What the answer to a question about a key comes to: a refusal, or 0.
-fn meaning<'a>(
-    issuers: &'a [&'a [u8]],
-    end: &'a [u8],
-    keys: &[&[u8]],
-    anchors: usize,
-    key: usize,
-    answer: u16,
-) -> u16
-    ensures { λ r. ⌜ r ≡ replyOf (map now (now (issuers .entry))) (now (end .entry)) (map now (now (keys .entry))) anchors key answer ⌝ }
+// The refusal that an answer stands for, or 0. That a key cannot be read is a general one here: the key itself is asked for a better.
+fn meaning(answer: u16) -> u16
+    ensures { λ r. ⌜ r ≡ meaningOf answer ⌝ }
 {
     if answer == 0 {
         return 0;
@@ -46,11 +28,7 @@ fn meaning<'a>(
         return refusal::UNSUPPORTED_SIGNATURE_ALGORITHM_FOR_PUBLIC_KEY;
     }
     if answer == 4 {
-        let e = key_fault(path::asked::key_of(issuers, end, keys, anchors, key));
-        if e == 0 {
-            return refusal::BAD_DER;
-        }
-        return e;
+        return refusal::BAD_DER;
     }
     refusal::INVALID_SIGNATURE_FOR_PUBLIC_KEY
 }
@@ -123,7 +101,7 @@ fn settle<'a>(
     s: State,
 ) -> State
     requires { ⌜ s .depth < 7 ⌝ }
-    ensures { λ r. ⌜ ((W : World) (K : List (List ℕ)) → Judges W (map now (now (issuers .entry))) (now (end .entry)) K (map now (now (constraints .entry))) (now (bound .entry)) anchors → (a : ℕ) → s .phase ≡ Ask → W .reply (keyAt s) (whatAt s) a ≡ 0 → placeOf s ≡ 0 → Stands W r (give (treeOf W s) a) (effort W s)) ⌝ }
+    ensures { λ r. ⌜ ((W : World) (K : List (List ℕ)) → Judges W (map now (now (issuers .entry))) (now (end .entry)) K (map now (now (constraints .entry))) (now (bound .entry)) anchors → (a : ℕ) → s .phase ≡ Ask → W .reply (keyAt s) (whatAt s) a ≡ 0 → placeOf s ≡ 0 → Heard W s r (give (treeOf W s) a) (effort W s)) ⌝ }
 {
     let numbers = s.path;
     let best = s.best;
@@ -141,6 +119,7 @@ fn settle<'a>(
     let e = x.refusal;
     if e == refusal::MAXIMUM_NAME_CONSTRAINT_COMPARISONS_EXCEEDED {
         return State {
+            comparisons: x.left,
             phase: Phase::Spent(refusal::MAXIMUM_NAME_CONSTRAINT_COMPARISONS_EXCEEDED),
             ..s
         };
@@ -164,7 +143,7 @@ fn settle<'a>(
 // A signature holds that is not the last: the next is asked for.
 fn ask_next(s: State, place: usize) -> State
     requires { ⌜ (s .depth < 7) × (place ≡ placeOf s) × (place ≡ 0 → ⊥) ⌝ }
-    ensures { λ r. ⌜ ((W : World) (a : ℕ) → s .phase ≡ Ask → W .reply (keyAt s) (whatAt s) a ≡ 0 → Stands W r (give (treeOf W s) a) (effort W s)) ⌝ }
+    ensures { λ r. ⌜ ((W : World) (a : ℕ) → s .phase ≡ Ask → W .reply (keyAt s) (whatAt s) a ≡ 0 → Heard W s r (give (treeOf W s) a) (effort W s)) ⌝ }
 {
     let signatures = s.signatures;
     if signatures == 0 {
@@ -193,11 +172,11 @@ fn on_answer<'a>(
     answer: u16,
 ) -> State
     requires { ⌜ (s .depth < 7) × (s .phase ≡ Ask) ⌝ }
-    ensures { λ r. ⌜ ((W : World) → Judges W (map now (now (issuers .entry))) (now (end .entry)) (map now (now (keys .entry))) (map now (now (constraints .entry))) (now (bound .entry)) anchors → Stands W r (give (treeOf W s) answer) (effort W s)) ⌝ }
+    ensures { λ r. ⌜ ((W : World) → Judges W (map now (now (issuers .entry))) (now (end .entry)) (map now (now (keys .entry))) (map now (now (constraints .entry))) (now (bound .entry)) anchors → Heard W s r (give (treeOf W s) answer) (effort W s)) ⌝ }
 {
     let best = s.best;
     let q = crate::asked(s);
-    let e = meaning(issuers, end, keys, anchors, q.key, answer);
+    let e = path::asked::reply_for(issuers, end, keys, anchors, q.key, meaning(answer));
     if e != 0 {
         let b = refusal::worse(best, e);
         return State {
@@ -216,7 +195,7 @@ fn on_answer<'a>(
 // The answer to an offer.
 fn on_word(s: State, word: u16) -> State
     requires { ⌜ (s .depth < 7) × (s .phase ≡ Offer) ⌝ }
-    ensures { λ r. ⌜ ((W : World) → Stands W r (give (treeOf W s) word) (effort W s)) ⌝ }
+    ensures { λ r. ⌜ ((W : World) → Heard W s r (give (treeOf W s) word) (effort W s)) ⌝ }
 {
     let best = s.best;
     if word == 0 {
@@ -245,7 +224,7 @@ pub fn reply<'a>(
     answer: u16,
 ) -> State
     requires { ⌜ (s .depth < 7) × (s .phase ≡ Walk → ⊥) ⌝ }
-    ensures { λ r. ⌜ ((W : World) → Judges W (map now (now (issuers .entry))) (now (end .entry)) (map now (now (keys .entry))) (map now (now (constraints .entry))) (now (bound .entry)) anchors → Stands W r (give (treeOf W s) answer) (effort W s)) ⌝ }
+    ensures { λ r. ⌜ ((W : World) → Judges W (map now (now (issuers .entry))) (now (end .entry)) (map now (now (keys .entry))) (map now (now (constraints .entry))) (now (bound .entry)) anchors → Heard W s r (give (treeOf W s) answer) (effort W s)) ⌝ }
 {
     let ph = s.phase;
     match ph {

@@ -8,14 +8,14 @@ ghost use mathlib.Core.List.{List, [], map};
 ghost use Prim.Native.Nat.{ℕ, _<_};
 ghost use Rattle.path.specs.Model.{checkOn};
 ghost use Rattle.search.specs.declared.Phase.the-variants.{Walk};
-ghost use Rattle.search.specs.Model.{Path, World, signatures};
-ghost use Rattle.search.specs.Machine.{treeOf, still, effort, tryTree, extendTree, extendStill, Stands, Moved, Halted};
+ghost use Rattle.dialogue.specs.Model.{Path, World, signatures};
+ghost use Rattle.search.specs.Machine.{treeOf, still, effort, tryTree, extendTree, extendStill, Heard, Grew, Moved, Halted};
 ghost use Rattle.search.specs.World.{worldOf};
 
 // Anchor i is tried: the first of its signatures is asked for.
 fn begin(s: State, i: usize) -> State
     requires { ⌜ s .depth < 7 ⌝ }
-    ensures { λ r. ⌜ ((W : World) → ((k : ℕ) (p : Path) → W .stages k p ≡ signatures k p) → Stands W r (tryTree W s i) (still W s)) ⌝ }
+    ensures { λ r. ⌜ ((W : World) → ((k : ℕ) (p : Path) → W .stages k p ≡ signatures k p) → Heard W s r (tryTree W s i) (still W s)) ⌝ }
 {
     let signatures = s.signatures;
     let depth = s.depth;
@@ -47,7 +47,7 @@ fn extend<'a>(
     i: usize,
 ) -> State
     requires { ⌜ (s .depth < 7) × (s .phase ≡ Walk) ⌝ }
-    ensures { λ r. ⌜ ((W : World) → ((p : Path) → W .check p ≡ checkOn (map now (now (issuers .entry))) (now (end .entry)) anchors (map now (now (distrusted .entry))) time (now (wanted .entry)) demanded p) → Stands W r (extendTree W s i) (extendStill W s i)) ⌝ }
+    ensures { λ r. ⌜ ((W : World) → ((p : Path) → W .check p ≡ checkOn (map now (now (issuers .entry))) (now (end .entry)) anchors (map now (now (distrusted .entry))) time (now (wanted .entry)) demanded p) → Grew W s r i (extendTree W s i) (extendStill W s i)) ⌝ }
 {
     let extensions = s.extensions;
     let depth = s.depth;

@@ -2,40 +2,39 @@ use Rattle.cert.proofs.Cases.{begun-case}
 use mathlib.Core.Path.{sym, _∙_}
 use Rattle.der.specs.Model.{onContent}
 use Rattle.cert.specs.Model.{begun}
-use borrow.Author.Needs.{needs}
 use Rattle.cert.proofs.begin.Statement.{statement}
 use Rattle.cert.proofs.begin.Tie as tie
 
 version-at-requires : tie.Need-version-at-requires
-version-at-requires c κs = search needs
+version-at-requires c κs = tt
 
 enum-known-p : tie.Need-enum-known-p
-enum-known-p c = search needs
+enum-known-p c = c .match .keys1
 
 enum-known-e : tie.Need-enum-known-e
-enum-known-e c = search needs
+enum-known-e c = c .match .keys2
 
 returns : tie.Need-returns
 unfolding begun onContent
 returns c =
     let arm = c .before in
-    simp (← arm .before .before .version-at .ensures, arm .e .given .1)
+    rw (← arm .before .before .version-at .ensures, arm .e .given .1)
 
 expect-requires : tie.Need-expect-requires
-expect-requires c κs = search needs
+expect-requires c κs = tt
 
 enum-known-p-2 : tie.Need-enum-known-p-2
-enum-known-p-2 c = search needs
+enum-known-p-2 c = c .match2 .keys1
 
 enum-known-e-2 : tie.Need-enum-known-e-2
-enum-known-e-2 c = search needs
+enum-known-e-2 c = c .match2 .keys2
 
 returns-2 : tie.Need-returns-2
 unfolding begun onContent
 returns-2 c =
     let second = c .before in
     let first = second .before .before .before .before in
-    simp (
+    rw (
       ← first .before .before .version-at .ensures,
       first .p .given .1,
       ← second .before .before .expect .ensures,
@@ -43,13 +42,13 @@ returns-2 c =
     )
 
 expect-requires-2 : tie.Need-expect-requires-2
-expect-requires-2 c κs = search needs
+expect-requires-2 c κs = tt
 
 enum-known-p-3 : tie.Need-enum-known-p-3
-enum-known-p-3 c = search needs
+enum-known-p-3 c = c .match3 .keys1
 
 enum-known-e-3 : tie.Need-enum-known-e-3
-enum-known-e-3 c = search needs
+enum-known-e-3 c = c .match3 .keys2
 
 returns-3 : tie.Need-returns-3
 unfolding begun onContent
@@ -57,7 +56,7 @@ returns-3 c =
     let third = c .before in
     let second = third .before .before .before .before in
     let first = second .before .before .before .before in
-    simp (
+    rw (
       ← first .before .before .version-at .ensures,
       first .p .given .1,
       ← second .before .before .expect .ensures,
@@ -67,7 +66,7 @@ returns-3 c =
     )
 
 same-requires : tie.Need-same-requires
-same-requires c κs = search needs
+same-requires c κs = tt
 
 returns-4 : tie.Need-returns-4
 returns-4 c =
@@ -87,7 +86,7 @@ returns-5 c =
     let third = c .before .before .before in
     let second = third .before .before .before .before in
     let first = second .before .before .before .before in
-    simp (← first .before .before .version-at .ensures, first .p .given .1, ← second .before .before .expect .ensures, second .p2 .given .1, ← third .before .before .expect2 .ensures, third .p3 .given .1, ← c .before .same .ensures, c .if1 .left)
+    rw (← first .before .before .version-at .ensures, first .p .given .1, ← second .before .before .expect .ensures, second .p2 .given .1, ← third .before .before .expect2 .ensures, third .p3 .given .1, ← c .before .same .ensures, c .if1 .left)
 
 pub begin-spec : {M : Type 1} → statement M
 begin-spec =

@@ -1,40 +1,39 @@
 use borrow.Author.Tests.{eq-eqb, ne-eqb}
 use Rattle.der.specs.Model.{onContent}
 use Rattle.cert.specs.Model.{opened, onParts}
-use borrow.Author.Needs.{needs}
 use Rattle.cert.proofs.envelope_of.Statement.{statement}
 use Rattle.cert.proofs.envelope_of.Tie as tie
 
 expect-requires : tie.Need-expect-requires
-expect-requires c κs = search needs
+expect-requires c κs = tt
 
 enum-known-p : tie.Need-enum-known-p
-enum-known-p c = search needs
+enum-known-p c = c .match .keys1
 
 enum-known-e : tie.Need-enum-known-e
-enum-known-e c = search needs
+enum-known-e c = c .match .keys2
 
 returns : tie.Need-returns
 unfolding opened onParts onContent
 returns c =
     let arm = c .before in
-    simp (← arm .before .before .expect .ensures, arm .e .given .1)
+    rw (← arm .before .before .expect .ensures, arm .e .given .1)
 
 parts-in-requires : tie.Need-parts-in-requires
-parts-in-requires c κs = search needs
+parts-in-requires c κs = tt
 
 enum-known-p-2 : tie.Need-enum-known-p-2
-enum-known-p-2 c = search needs
+enum-known-p-2 c = c .match2 .keys1
 
 enum-known-e-2 : tie.Need-enum-known-e-2
-enum-known-e-2 c = search needs
+enum-known-e-2 c = c .match2 .keys2
 
 returns-2 : tie.Need-returns-2
 unfolding opened onParts onContent
 returns-2 c =
     let second = c .before in
     let first = second .before .before .before .before in
-    simp (
+    rw (
       ← first .before .before .expect .ensures,
       first .p .given .1,
       ← second .before .before .parts-in .ensures,
@@ -46,7 +45,7 @@ unfolding opened onParts onContent
 returns-3 c =
     let second = c .before .before .before in
     let first = second .before .before .before .before in
-    simp (
+    rw (
       ← first .before .before .expect .ensures,
       first .p .given .1,
       ← second .before .before .parts-in .ensures,
@@ -59,7 +58,7 @@ unfolding opened onParts onContent
 returns-4 c =
     let second = c .before .before .before in
     let first = second .before .before .before .before in
-    simp (
+    rw (
       ← first .before .before .expect .ensures,
       first .p .given .1,
       ← second .before .before .parts-in .ensures,

@@ -1,40 +1,39 @@
 use Rattle.cert.specs.Model.{readCertificate, onParts, onBegun, onFound, onKept}
 use Rattle.cert.proofs.Cases.{read-case}
 use mathlib.Core.Path.{sym, _∙_}
-use borrow.Author.Needs.{needs}
 use Rattle.cert.proofs.read.Statement.{statement}
 use Rattle.cert.proofs.read.Tie as tie
 
 envelope-of-requires : tie.Need-envelope-of-requires
-envelope-of-requires c κs = search needs
+envelope-of-requires c κs = tt
 
 enum-known-p : tie.Need-enum-known-p
-enum-known-p c = search needs
+enum-known-p c = c .match .keys1
 
 enum-known-e : tie.Need-enum-known-e
-enum-known-e c = search needs
+enum-known-e c = c .match .keys2
 
 returns : tie.Need-returns
 unfolding readCertificate onParts onBegun onFound onKept
 returns c =
     let first = c .before in
-    simp (← first .before .before .envelope-of .ensures, first .e .given .1)
+    rw (← first .before .before .envelope-of .ensures, first .e .given .1)
 
 begin-requires : tie.Need-begin-requires
-begin-requires c κs = search needs
+begin-requires c κs = tt
 
 enum-known-p-2 : tie.Need-enum-known-p-2
-enum-known-p-2 c = search needs
+enum-known-p-2 c = c .match2 .keys1
 
 enum-known-e-2 : tie.Need-enum-known-e-2
-enum-known-e-2 c = search needs
+enum-known-e-2 c = c .match2 .keys2
 
 returns-2 : tie.Need-returns-2
 unfolding readCertificate onParts onBegun onFound onKept
 returns-2 c =
     let second = c .before in
     let first = second .before .before .before .before .before in
-    simp (
+    rw (
       ← first .before .before .envelope-of .ensures,
       first .p .given .1,
       ← second .before .before .begin .ensures,
@@ -42,13 +41,13 @@ returns-2 c =
     )
 
 fields-at-requires : tie.Need-fields-at-requires
-fields-at-requires c κs = search needs
+fields-at-requires c κs = tt
 
 enum-known-p-3 : tie.Need-enum-known-p-3
-enum-known-p-3 c = search needs
+enum-known-p-3 c = c .match3 .keys1
 
 enum-known-e-3 : tie.Need-enum-known-e-3
-enum-known-e-3 c = search needs
+enum-known-e-3 c = c .match3 .keys2
 
 returns-3 : tie.Need-returns-3
 unfolding readCertificate onParts onBegun onFound onKept
@@ -56,7 +55,7 @@ returns-3 c =
     let third = c .before in
     let second = third .before .before .before .before .before in
     let first = second .before .before .before .before .before in
-    simp (
+    rw (
       ← first .before .before .envelope-of .ensures,
       first .p .given .1,
       ← second .before .before .begin .ensures,
@@ -66,13 +65,13 @@ returns-3 c =
     )
 
 all-at-requires : tie.Need-all-at-requires
-all-at-requires c κs = search needs
+all-at-requires c κs = tt
 
 enum-known-k : tie.Need-enum-known-k
-enum-known-k c = search needs
+enum-known-k c = c .match4 .keys1
 
 enum-known-e-4 : tie.Need-enum-known-e-4
-enum-known-e-4 c = search needs
+enum-known-e-4 c = c .match4 .keys2
 
 returns-4 : tie.Need-returns-4
 unfolding readCertificate onParts onBegun onFound onKept
@@ -81,7 +80,7 @@ returns-4 c =
     let third = fourth .before .before .before .before .before in
     let second = third .before .before .before .before .before in
     let first = second .before .before .before .before .before in
-    simp (
+    rw (
       ← first .before .before .envelope-of .ensures,
       first .p .given .1,
       ← second .before .before .begin .ensures,

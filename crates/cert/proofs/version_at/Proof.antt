@@ -1,37 +1,36 @@
 use borrow.Author.Tests.{eq-eqb, ne-eqb}
 use Rattle.der.specs.Model.{onContent}
 use Rattle.cert.specs.Model.{versionAt, isVersion}
-use borrow.Author.Needs.{needs}
 use Rattle.cert.proofs.version_at.Statement.{statement}
 use Rattle.cert.proofs.version_at.Tie as tie
 
 expect-requires : tie.Need-expect-requires
-expect-requires c κs = search needs
+expect-requires c κs = tt
 
 enum-known-p : tie.Need-enum-known-p
-enum-known-p c = search needs
+enum-known-p c = c .match .keys1
 
 enum-known-e : tie.Need-enum-known-e
-enum-known-e c = search needs
+enum-known-e c = c .match .keys2
 
 returns : tie.Need-returns
 unfolding versionAt isVersion onContent
 returns c =
     let arm = c .before in
-    simp (← arm .before .before .expect .ensures, arm .e .given .1)
+    rw (← arm .before .before .expect .ensures, arm .e .given .1)
 
 read-small-requires : tie.Need-read-small-requires
-read-small-requires c κs = search needs
+read-small-requires c κs = tt
 
 enum-known-value : tie.Need-enum-known-value
-enum-known-value c = search needs
+enum-known-value c = c .match2 .keys1
 
 returns-2 : tie.Need-returns-2
 unfolding versionAt isVersion onContent
 returns-2 c =
     let second = c .before .before in
     let first = second .before .before .before .before in
-    simp (
+    rw (
       ← first .before .before .expect .ensures,
       first .p .given .1,
       ← second .before .before .read-small .ensures,
@@ -44,7 +43,7 @@ unfolding versionAt isVersion onContent
 returns-3 c =
     let second = c .before .before .before .before in
     let first = second .before .before .before .before in
-    simp (
+    rw (
       ← first .before .before .expect .ensures,
       first .p .given .1,
       ← second .before .before .read-small .ensures,
@@ -54,14 +53,14 @@ returns-3 c =
     )
 
 enum-known-e-2 : tie.Need-enum-known-e-2
-enum-known-e-2 c = search needs
+enum-known-e-2 c = c .match2 .keys2
 
 returns-4 : tie.Need-returns-4
 unfolding versionAt isVersion onContent
 returns-4 c =
     let second = c .before .before .before .before in
     let first = second .before .before .before .before in
-    simp (
+    rw (
       ← first .before .before .expect .ensures,
       first .p .given .1,
       ← second .before .before .read-small .ensures,
@@ -75,7 +74,7 @@ unfolding versionAt isVersion onContent
 returns-5 c =
     let second = c .before in
     let first = second .before .before .before .before in
-    simp (
+    rw (
       ← first .before .before .expect .ensures,
       first .p .given .1,
       ← second .before .before .read-small .ensures,

@@ -1,7 +1,6 @@
-use borrow.Author.Needs.{needs}
 use native.Mathlib.Omega.{arith}
 use Prim.Native.Nat.{_-_, _≤_}
-use mathlib.Core.Path.{_≡_, sym, _∙_}
+use mathlib.Core.Path.{sym, _∙_}
 use Rattle.der.proofs.Loop.{Going, start, turn, stop, finish}
 use Rattle.der.proofs.Theorems.{value-places}
 use Rattle.der.proofs.Row.{more-value, more-none}
@@ -22,10 +21,10 @@ unfolding countValues
 loop-holds c = (omega arith, start _ _ _ _ _)
 
 read-value-requires : tie.Need-read-value-requires Inv-loop μ-loop
-read-value-requires c κs = search needs
+read-value-requires c κs = tt
 
 enum-known-end : tie.Need-enum-known-end Inv-loop μ-loop
-enum-known-end c = search needs
+enum-known-end c = c .match .keys1
 
 add-n : tie.Need-add-n Inv-loop μ-loop
 add-n c = omega arith
@@ -44,7 +43,7 @@ loop-again c =
     (omega arith, turn _ _ _ _ _ _ _ going (omega arith) (omega arith) (more-value _ found))
 
 enum-told : tie.Need-enum-told Inv-loop μ-loop
-enum-told c = search needs
+enum-told c = c .match .keys2
 
 returns : tie.Need-returns Inv-loop μ-loop
 returns c =

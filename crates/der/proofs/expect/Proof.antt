@@ -1,18 +1,16 @@
-use borrow.Author.Needs.{needs}
-use native.Mathlib.Omega.{arith}
 use Rattle.der.proofs.Laws.{tests}
 use Rattle.der.specs.Model.{expectAt, ofTag}
 use Rattle.der.proofs.expect.Statement.{statement}
 use Rattle.der.proofs.expect.Tie as tie
 
 read-value-requires : tie.Need-read-value-requires
-read-value-requires c κs = search needs
+read-value-requires c κs = tt
 
 enum-known-t : tie.Need-enum-known-t
-enum-known-t c = search needs
+enum-known-t c = c .match .keys1
 
 enum-told : tie.Need-enum-told
-enum-told c = search needs
+enum-told c = c .match .keys2
 
 returns : tie.Need-returns
 unfolding expectAt ofTag

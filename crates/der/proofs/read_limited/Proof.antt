@@ -1,7 +1,8 @@
 use borrow.Author.Needs.{needs}
 use native.Mathlib.Omega.{arith}
 use mathlib.Core.Path.{sym, _∙_}
-use Rattle.der.proofs.Laws.{tests, limited-value}
+use borrow.Author.Tests.{le-ltb, lt-leb}
+use Rattle.der.proofs.Laws.{tests, limited-value, limited-long, limited-past, limited-bad}
 use Rattle.der.proofs.Invert.{length-next}
 use Rattle.der.specs.Model.{readLimited, withLength}
 use Rattle.der.proofs.read_limited.Statement.{statement}
@@ -19,58 +20,94 @@ shared-slice-read-tag : tie.Need-shared-slice-read-tag
 shared-slice-read-tag c = search needs
 
 high-tag-requires : tie.Need-high-tag-requires
-high-tag-requires c κs = search needs
+high-tag-requires c κs = tt
 
 returns-3 : tie.Need-returns-3
 unfolding readLimited withLength
-returns-3 c = search (tests, ← c .before .high-tag .ensures, c .if3 .taken)
+returns-3 c =
+    let tagged = c .before in
+    let within = tagged .before .before in
+    simp (le-ltb _ _ (within .before .if1 .left), lt-leb _ _ (within .if2 .left), ← tagged .high-tag .ensures, c .if3 .taken)
 
 add-read-length : tie.Need-add-read-length
 add-read-length c = search needs
 
 read-length-requires : tie.Need-read-length-requires
-read-length-requires c κs = search needs
+read-length-requires c κs = tt
 
 enum-known-len : tie.Need-enum-known-len
-enum-known-len c = search needs
+enum-known-len c = c .match .keys1
 
 returns-4 : tie.Need-returns-4
-unfolding readLimited withLength
 returns-4 c =
     let len = c .before .before in
     let called = len .before .before in
-    search (tests, ← called .before .before .high-tag .ensures, called .before .if3 .left, ← called .read-length .ensures, len .len .given .1)
+    let tagged = called .before .before in
+    let within = tagged .before .before in
+    sym
+    (limited-long _ _ _ _ _ _
+    (within .before .if1 .left)
+    (within .if2 .left)
+    (sym (tagged .high-tag .ensures) ∙ called .before .if3 .left)
+    (sym (called .read-length .ensures) ∙ len .len .given .1)
+    (c .if4 .taken))
 
 sub-if5 : tie.Need-sub-if5
 sub-if5 c =
     let len = c .before .before in
     let reach = length-next _ _ _ _ _ (sym (len .before .before .read-length .ensures) ∙ len .len .given .1) in
-    omega arith
+    omega (arith, reach)
 
 returns-5 : tie.Need-returns-5
-unfolding readLimited withLength
 returns-5 c =
     let len = c .before .before .before in
     let called = len .before .before in
-    search (tests, ← called .before .before .high-tag .ensures, called .before .if3 .left, ← called .read-length .ensures, len .len .given .1)
+    let tagged = called .before .before in
+    let within = tagged .before .before in
+    sym
+    (limited-past _ _ _ _ _ _
+    (within .before .if1 .left)
+    (within .if2 .left)
+    (sym (tagged .high-tag .ensures) ∙ called .before .if3 .left)
+    (sym (called .read-length .ensures) ∙ len .len .given .1)
+    (c .before .if4 .left)
+    (c .if5 .taken))
 
 add-t16 : tie.Need-add-t16
-add-t16 c = search needs
+add-t16 c =
+    let len = c .before .before .before in
+    let reach = length-next _ _ _ _ _ (sym (len .before .before .read-length .ensures) ∙ len .len .given .1) in
+    omega (arith, reach .1, c .if5 .left, len .before .before .before .before .before .before .before .before .before .fits .to)
 
 enum-told : tie.Need-enum-told
-enum-told c = search needs
+enum-told c = c .match .keys2
 
 returns-6 : tie.Need-returns-6
 returns-6 c =
     let len = c .before .before .before in
     let called = len .before .before in
-    sym (limited-value _ _ _ _ _ _ (omega arith) (omega arith) (sym (called .before .before .high-tag .ensures) ∙ called .before .if3 .left) (sym (called .read-length .ensures) ∙ len .len .given .1) (omega arith) (omega arith))
+    let tagged = called .before .before in
+    let within = tagged .before .before in
+    sym
+    (limited-value _ _ _ _ _ _
+    (within .before .if1 .left)
+    (within .if2 .left)
+    (sym (tagged .high-tag .ensures) ∙ called .before .if3 .left)
+    (sym (called .read-length .ensures) ∙ len .len .given .1)
+    (c .before .if4 .left)
+    (c .if5 .left))
 
 returns-7 : tie.Need-returns-7
-unfolding readLimited withLength
 returns-7 c =
     let called = c .before .before in
-    search (tests, ← called .before .before .high-tag .ensures, called .before .if3 .left, ← called .read-length .ensures, c .enum-told .given .1)
+    let tagged = called .before .before in
+    let within = tagged .before .before in
+    sym
+    (limited-bad _ _ _ _
+    (within .before .if1 .left)
+    (within .if2 .left)
+    (sym (tagged .high-tag .ensures) ∙ called .before .if3 .left)
+    (sym (called .read-length .ensures) ∙ c .enum-told .given .1))
 
 pub read-limited-spec : {M : Type 1} → statement M
 read-limited-spec =

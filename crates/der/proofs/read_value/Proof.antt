@@ -4,7 +4,7 @@ use Rattle.der.proofs.read_value.Statement.{statement}
 use Rattle.der.proofs.read_value.Tie as tie
 
 read-limited-requires : tie.Need-read-limited-requires
-read-limited-requires c κs = search needs
+read-limited-requires c κs = tt
 
 returns : tie.Need-returns
 unfolding readValue

@@ -1,11 +1,10 @@
-use borrow.Author.Needs.{needs}
 use native.Mathlib.Omega.{arith}
 use Prim.Native.Nat.{_+_, _-_, _≤_}
 use mathlib.Core.Path.{_≡_, sym, _∙_}
-use Rattle.der.proofs.Laws.{tests}
+use Rattle.der.proofs.Laws.{tests, in-part, left-falls}
 use Rattle.der.specs.Model.{sameList, sameParts}
 use Rattle.der.specs.Places.{part}
-use Rattle.der.proofs.Equal.{same-parts, same-short, same-start, same-turn, same-differ, same-end}
+use Rattle.der.proofs.Equal.{same-parts, same-short, same-start, same-turn, same-differ, same-end, in-other}
 use Rattle.der.proofs.same.Statement.{statement}
 use Rattle.der.proofs.same.Tie as tie
 
@@ -33,47 +32,71 @@ returns-4 c = search tests
 
 returns-5 : tie.Need-returns-5 Inv-loop μ-loop
 returns-5 c =
+    let ends = c .before in
+    let begins = ends .before in
+    let within = begins .before in
     sym
-    (same-parts _ _ _ _ _ _ (omega arith) (omega arith) (omega arith) (omega arith)
-    ∙ same-short _ _ _ _ _ _ (omega arith) (omega arith) (c .if5 .taken))
+    (same-parts _ _ _ _ _ _ (within .before .if1 .left) (within .if2 .left) (begins .if3 .left) (ends .if4 .left)
+    ∙ same-short _ _ _ _ _ _ (within .if2 .left) (ends .if4 .left) (c .if5 .taken))
 
 loop-holds : tie.Need-loop-holds Inv-loop μ-loop
 loop-holds c =
-    (omega arith, same-start _ _ _ _ _ _ ∙ sym (same-parts _ _ _ _ _ _ (omega arith) (omega arith) (omega arith) (omega arith)))
+    let ends = c .before in
+    let begins = ends .before in
+    let within = begins .before in
+    (omega arith, same-start _ _ _ _ _ _ ∙ sym (same-parts _ _ _ _ _ _ (within .before .if1 .left) (within .if2 .left) (begins .if3 .left) (ends .if4 .left)))
 
 add-if6 : tie.Need-add-if6 Inv-loop μ-loop
-add-if6 c = omega arith
+add-if6 c = omega (arith, in-part _ _ _ (c .loop-test .taken), c .before .before .before .before .before .before .before .fits .b)
 
 shared-slice-read-if6 : tie.Need-shared-slice-read-if6 Inv-loop μ-loop
-shared-slice-read-if6 c = omega arith
+shared-slice-read-if6 c =
+    let turn = c .before in
+    omega (arith, in-part _ _ _ (turn .loop-test .taken), turn .before .before .before .before .before .if2 .left)
 
 add-if6-2 : tie.Need-add-if6-2 Inv-loop μ-loop
-add-if6-2 c = omega arith
+add-if6-2 c =
+    let turn = c .before in
+    let sizes = turn .before .before in
+    omega (arith, in-other _ _ _ _ _ (turn .loop-test .taken) (sizes .if5 .left), sizes .before .before .before .before .before .fits .d)
 
 shared-slice-read-if6-2 : tie.Need-shared-slice-read-if6-2 Inv-loop μ-loop
-shared-slice-read-if6-2 c = omega arith
+shared-slice-read-if6-2 c =
+    let turn = c .before .before in
+    let sizes = turn .before .before in
+    omega (arith, in-other _ _ _ _ _ (turn .loop-test .taken) (sizes .if5 .left), sizes .before .if4 .left)
 
 returns-6 : tie.Need-returns-6 Inv-loop μ-loop
 returns-6 c =
+    let turn = c .before .before .before in
+    let sizes = turn .before .before in
     sym
-    (sym (c .before .before .before .before .loop .inv .1)
-    ∙ same-differ _ _ _ _ _ _ _ (omega arith) (omega arith) (omega arith) (omega arith) (c .if6 .taken))
+    (sym (turn .before .loop .inv .1)
+    ∙ same-differ _ _ _ _ _ _ _ (turn .loop-test .taken) (sizes .if5 .left) (sizes .before .before .before .if2 .left) (sizes .before .if4 .left) (c .if6 .taken))
 
 add-i : tie.Need-add-i Inv-loop μ-loop
-add-i c = omega arith
+add-i c =
+    let turn = c .before .before .before in
+    omega (arith, turn .loop-test .taken, turn .before .before .before .before .before .before .before .fits .b)
 
 loop-less : tie.Need-loop-less Inv-loop μ-loop
-loop-less c = omega arith
+loop-less c = left-falls _ _ (c .before .before .before .loop-test .taken)
 
 loop-again : tie.Need-loop-again Inv-loop μ-loop
-loop-again c = (
-  omega arith,
-  same-turn _ _ _ _ _ _ _ (omega arith) (omega arith) (omega arith) (omega arith) (c .if6 .left)
-      ∙ c .before .before .before .before .loop .inv .1,
-)
+loop-again c =
+    let turn = c .before .before .before in
+    let sizes = turn .before .before in (
+      omega (arith, turn .loop-test .taken),
+      same-turn _ _ _ _ _ _ _ (turn .loop-test .taken) (sizes .if5 .left) (sizes .before .before .before .if2 .left) (sizes .before .if4 .left) (c .if6 .left)
+          ∙ turn .before .loop .inv .1,
+    )
 
 returns-7 : tie.Need-returns-7 Inv-loop μ-loop
-returns-7 c = sym (sym (c .before .loop .inv .1) ∙ same-end _ _ _ _ _ _ _ (omega arith) (omega arith))
+returns-7 c =
+    let sizes = c .before .before in
+    sym
+    (sym (c .before .loop .inv .1)
+    ∙ same-end _ _ _ _ _ _ _ (sizes .before .before .before .before .if1 .left) (sizes .before .before .if3 .left) (sizes .if5 .left) (c .before .loop .inv .0) (c .loop-test .left))
 
 pub same-spec : {M : Type 1} → statement M
 same-spec =

@@ -5,13 +5,13 @@ use Rattle.path.proofs.check.Statement.{statement}
 use Rattle.path.proofs.check.Tie as tie
 
 number-at-requires : tie.Need-number-at-requires
-number-at-requires c κs = search needs
+number-at-requires c κs = tt
 
 certificate-requires : tie.Need-certificate-requires
-certificate-requires c κs = search needs
+certificate-requires c κs = tt
 
 check-certificate-requires : tie.Need-check-certificate-requires
-check-certificate-requires c κs = search needs
+check-certificate-requires c κs = tt
 
 returns : tie.Need-returns
 returns c = c .check-certificate .ensures ∙ check-end _ _ (c .before .before .before .before .before .before .args .path) _ _ _ _ _ _ (c .before .before .before .number-at .ensures) (c .before .before .certificate .ensures) (c .before .if1 .taken)
@@ -20,7 +20,7 @@ sub-check-certificate : tie.Need-sub-check-certificate
 sub-check-certificate c = search needs
 
 check-certificate-requires-2 : tie.Need-check-certificate-requires-2
-check-certificate-requires-2 c κs = search needs
+check-certificate-requires-2 c κs = tt
 
 returns-2 : tie.Need-returns-2
 returns-2 c = c .check-certificate2 .ensures ∙ check-issuer _ _ (c .before .before .before .before .before .before .args .path) _ _ _ _ _ _ (c .before .before .before .number-at .ensures) (c .before .before .certificate .ensures) (c .before .if1 .left)

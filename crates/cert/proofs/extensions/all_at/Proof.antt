@@ -3,51 +3,50 @@ use Rattle.cert.specs.Model.{extensionsAt, onKept}
 use Rattle.cert.proofs.Cases.{extensions-case}
 use mathlib.Core.Path.{sym, _∙_}
 use borrow.Author.Tests.{eq-eqb, ne-eqb}
-use borrow.Author.Needs.{needs}
 use Rattle.cert.proofs.extensions.all_at.Statement.{statement}
 use Rattle.cert.proofs.extensions.all_at.Tie as tie
 
 none-known-requires : tie.Need-none-known-requires
-none-known-requires c κs = search needs
+none-known-requires c κs = tt
 
 returns : tie.Need-returns
 unfolding extensionsAt onKept onContent
-returns c = simp (c .none-known .ensures, eq-eqb _ _ (c .before .if1 .taken))
+returns c = rw (c .none-known .ensures, eq-eqb _ _ (c .before .if1 .taken))
 
 expect-requires : tie.Need-expect-requires
-expect-requires c κs = search needs
+expect-requires c κs = tt
 
 enum-known-p : tie.Need-enum-known-p
-enum-known-p c = search needs
+enum-known-p c = c .match .keys1
 
 enum-known-e : tie.Need-enum-known-e
-enum-known-e c = search needs
+enum-known-e c = c .match .keys2
 
 returns-2 : tie.Need-returns-2
 unfolding extensionsAt onKept onContent
 returns-2 c =
     let first = c .before in
-    simp (
+    rw (
       ne-eqb _ _ (first .before .before .before .if1 .left),
       ← first .before .before .expect .ensures,
       first .e .given .1,
     )
 
 expect-requires-2 : tie.Need-expect-requires-2
-expect-requires-2 c κs = search needs
+expect-requires-2 c κs = tt
 
 enum-known-p-2 : tie.Need-enum-known-p-2
-enum-known-p-2 c = search needs
+enum-known-p-2 c = c .match2 .keys1
 
 enum-known-e-2 : tie.Need-enum-known-e-2
-enum-known-e-2 c = search needs
+enum-known-e-2 c = c .match2 .keys2
 
 returns-3 : tie.Need-returns-3
 unfolding extensionsAt onKept onContent
 returns-3 c =
     let second = c .before in
     let first = second .before .before .before .before in
-    simp (
+    rw (
       ne-eqb _ _ (first .before .before .before .if1 .left),
       ← first .before .before .expect .ensures,
       first .p .given .1,
@@ -56,13 +55,13 @@ returns-3 c =
     )
 
 gather-requires : tie.Need-gather-requires
-gather-requires c κs = search needs
+gather-requires c κs = tt
 
 enum-known-k : tie.Need-enum-known-k
-enum-known-k c = search needs
+enum-known-k c = c .match3 .keys1
 
 enum-known-e-3 : tie.Need-enum-known-e-3
-enum-known-e-3 c = search needs
+enum-known-e-3 c = c .match3 .keys2
 
 returns-4 : tie.Need-returns-4
 unfolding extensionsAt onKept onContent
@@ -70,7 +69,7 @@ returns-4 c =
     let third = c .before in
     let second = third .before .before .before .before in
     let first = second .before .before .before .before in
-    simp (
+    rw (
       ne-eqb _ _ (first .before .before .before .if1 .left),
       ← first .before .before .expect .ensures,
       first .p .given .1,
@@ -86,7 +85,7 @@ returns-5 c =
     let third = c .before .before .before .before in
     let second = third .before .before .before .before in
     let first = second .before .before .before .before in
-    simp (
+    rw (
       ne-eqb _ _ (first .before .before .before .if1 .left),
       ← first .before .before .expect .ensures,
       first .p .given .1,
@@ -103,7 +102,7 @@ returns-6 c =
     let third = c .before .before .before .before .before .before in
     let second = third .before .before .before .before in
     let first = second .before .before .before .before in
-    simp (
+    rw (
       ne-eqb _ _ (first .before .before .before .if1 .left),
       ← first .before .before .expect .ensures,
       first .p .given .1,

@@ -1,7 +1,6 @@
 use Rattle.der.proofs.Laws.{tests}
 use Rattle.der.specs.Model.{onContent}
 use Rattle.cert.specs.Model.{contentOf}
-use borrow.Author.Needs.{needs}
 use Rattle.cert.proofs.extensions.content_of.Statement.{statement}
 use Rattle.cert.proofs.extensions.content_of.Tie as tie
 
@@ -10,13 +9,13 @@ unfolding contentOf onContent
 returns c = search tests
 
 expect-requires : tie.Need-expect-requires
-expect-requires c κs = search needs
+expect-requires c κs = tt
 
 enum-known-p : tie.Need-enum-known-p
-enum-known-p c = search needs
+enum-known-p c = c .match .keys1
 
 enum-known-e : tie.Need-enum-known-e
-enum-known-e c = search needs
+enum-known-e c = c .match .keys2
 
 returns-2 : tie.Need-returns-2
 unfolding contentOf onContent

@@ -2,39 +2,38 @@ use Rattle.cert.proofs.Cases.{extension-case}
 use mathlib.Core.Path.{sym, _∙_}
 use Rattle.der.specs.Model.{onContent}
 use Rattle.cert.specs.Model.{extensionIn, onTruth}
-use borrow.Author.Needs.{needs}
 use Rattle.cert.proofs.extensions.extension_in.Statement.{statement}
 use Rattle.cert.proofs.extensions.extension_in.Tie as tie
 
 expect-requires : tie.Need-expect-requires
-expect-requires c κs = search needs
+expect-requires c κs = tt
 
 enum-known-p : tie.Need-enum-known-p
-enum-known-p c = search needs
+enum-known-p c = c .match .keys1
 
 enum-known-e : tie.Need-enum-known-e
-enum-known-e c = search needs
+enum-known-e c = c .match .keys2
 
 returns : tie.Need-returns
 unfolding extensionIn onTruth onContent
 returns c =
     let arm = c .before in
-    simp (← arm .before .before .expect .ensures, arm .e .given .1)
+    rw (← arm .before .before .expect .ensures, arm .e .given .1)
 
 read-bool-requires : tie.Need-read-bool-requires
-read-bool-requires c κs = search needs
+read-bool-requires c κs = tt
 
 enum-known-critical : tie.Need-enum-known-critical
-enum-known-critical c = search needs
+enum-known-critical c = c .match2 .keys1
 
 expect-requires-2 : tie.Need-expect-requires-2
-expect-requires-2 c κs = search needs
+expect-requires-2 c κs = tt
 
 enum-known-p-2 : tie.Need-enum-known-p-2
-enum-known-p-2 c = search needs
+enum-known-p-2 c = c .match3 .keys1
 
 enum-known-e-2 : tie.Need-enum-known-e-2
-enum-known-e-2 c = search needs
+enum-known-e-2 c = c .match3 .keys2
 
 returns-2 : tie.Need-returns-2
 unfolding extensionIn onTruth onContent
@@ -42,7 +41,7 @@ returns-2 c =
     let third = c .before in
     let second = third .before .before .before .before in
     let first = second .before .before .before .before in
-    simp (
+    rw (
       ← first .before .before .expect .ensures,
       first .p .given .1,
       ← second .before .before .read-bool .ensures,
@@ -52,7 +51,7 @@ returns-2 c =
     )
 
 enum-known-e-3 : tie.Need-enum-known-e-3
-enum-known-e-3 c = search needs
+enum-known-e-3 c = c .match2 .keys2
 
 returns-3 : tie.Need-returns-3
 returns-3 c =
@@ -70,7 +69,7 @@ unfolding extensionIn onTruth onContent
 returns-4 c =
     let second = c .before in
     let first = second .before .before .before .before in
-    simp (
+    rw (
       ← first .before .before .expect .ensures,
       first .p .given .1,
       ← second .before .before .read-bool .ensures,

@@ -1,6 +1,5 @@
 use Prim.Native.Nat.{_-_}
 use mathlib.Core.Path.{sym, _∙_}
-use borrow.Author.Needs.{needs}
 use native.Mathlib.Omega.{arith}
 use Rattle.der.proofs.Loop.{Going, start, turn, stop, finish}
 use Rattle.cert.specs.Model.{taken, goOn, allKept, gathered}
@@ -16,17 +15,17 @@ abbrev μ-loop : tie.MeasureT-loop
 μ-loop s from to strict at₀ known₀ at known = to - at
 
 none-known-requires : tie.Need-none-known-requires Inv-loop μ-loop
-none-known-requires c κs = search needs
+none-known-requires c κs = tt
 
 loop-holds : tie.Need-loop-holds Inv-loop μ-loop
 unfolding gathered
 loop-holds c = rw (c .none-known .ensures) (start _ _ _ _ _)
 
 take-one-requires : tie.Need-take-one-requires Inv-loop μ-loop
-take-one-requires c κs = search needs
+take-one-requires c κs = tt
 
 enum-known-next : tie.Need-enum-known-next Inv-loop μ-loop
-enum-known-next c = search needs
+enum-known-next c = c .match .keys1
 
 loop-less : tie.Need-loop-less Inv-loop μ-loop
 loop-less c =
@@ -41,7 +40,7 @@ loop-again c =
     turn _ _ _ _ _ _ _ (c .before .before .before .before .before .loop .inv) (omega arith) (omega arith) (go-next found)
 
 enum-known-e : tie.Need-enum-known-e Inv-loop μ-loop
-enum-known-e c = search needs
+enum-known-e c = c .match .keys2
 
 returns : tie.Need-returns Inv-loop μ-loop
 returns c =

@@ -40,7 +40,7 @@ shared-slice-read-known-kind : tie.Need-shared-slice-read-known-kind
 shared-slice-read-known-kind c = search needs
 
 known-kind-requires : tie.Need-known-kind-requires
-known-kind-requires c κs = search needs
+known-kind-requires c κs = tt
 
 returns-6 : tie.Need-returns-6
 unfolding kindOf

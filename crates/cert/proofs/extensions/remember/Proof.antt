@@ -1,43 +1,42 @@
 use borrow.Author.Tests.{eq-eqb, ne-eqb}
 use Rattle.der.specs.Model.{onContent}
 use Rattle.cert.specs.Model.{remembered, passedOver}
-use borrow.Author.Needs.{needs}
 use Rattle.cert.proofs.extensions.remember.Statement.{statement}
 use Rattle.cert.proofs.extensions.remember.Tie as tie
 
 kind-of-requires : tie.Need-kind-of-requires
-kind-of-requires c κs = search needs
+kind-of-requires c κs = tt
 
 returns : tie.Need-returns
 unfolding remembered passedOver onContent
-returns c = simp (← c .before .before .before .kind-of .ensures, eq-eqb _ _ (c .before .before .if1 .taken), c .before .if2 .taken, c .if3 .taken)
+returns c = rw (← c .before .before .before .kind-of .ensures, eq-eqb _ _ (c .before .before .if1 .taken), c .before .if2 .taken, c .if3 .taken)
 
 returns-2 : tie.Need-returns-2
 unfolding remembered passedOver onContent
-returns-2 c = simp (← c .before .before .before .kind-of .ensures, eq-eqb _ _ (c .before .before .if1 .taken), c .before .if2 .taken, c .if3 .left)
+returns-2 c = rw (← c .before .before .before .kind-of .ensures, eq-eqb _ _ (c .before .before .if1 .taken), c .before .if2 .taken, c .if3 .left)
 
 returns-3 : tie.Need-returns-3
 unfolding remembered passedOver onContent
-returns-3 c = simp (← c .before .before .kind-of .ensures, eq-eqb _ _ (c .before .if1 .taken), c .if2 .left)
+returns-3 c = rw (← c .before .before .kind-of .ensures, eq-eqb _ _ (c .before .if1 .taken), c .if2 .left)
 
 slot-of-requires : tie.Need-slot-of-requires
-slot-of-requires c κs = search needs
+slot-of-requires c κs = tt
 
 returns-4 : tie.Need-returns-4
 unfolding remembered passedOver onContent
-returns-4 c = simp (← c .before .before .before .kind-of .ensures, ne-eqb _ _ (c .before .before .if1 .left), ← c .before .slot-of .ensures, c .if4 .taken)
+returns-4 c = rw (← c .before .before .before .kind-of .ensures, ne-eqb _ _ (c .before .before .if1 .left), ← c .before .slot-of .ensures, c .if4 .taken)
 
 content-of-requires : tie.Need-content-of-requires
-content-of-requires c κs = search needs
+content-of-requires c κs = tt
 
 enum-known-p : tie.Need-enum-known-p
-enum-known-p c = search needs
+enum-known-p c = c .match .keys1
 
 set-slot-requires : tie.Need-set-slot-requires
-set-slot-requires c κs = search needs
+set-slot-requires c κs = tt
 
 enum-known-e : tie.Need-enum-known-e
-enum-known-e c = search needs
+enum-known-e c = c .match .keys2
 
 returns-5 : tie.Need-returns-5
 unfolding remembered passedOver onContent
@@ -45,7 +44,7 @@ returns-5 c =
     let arm = c .before .before in
     let free = arm .before .before .before in
     let some = free .before .before in
-    simp (
+    rw (
       c .set-slot .ensures,
       ← some .before .kind-of .ensures,
       ne-eqb _ _ (some .if1 .left),
@@ -61,7 +60,7 @@ returns-6 c =
     let arm = c .before in
     let free = arm .before .before .before in
     let some = free .before .before in
-    simp (
+    rw (
       ← some .before .kind-of .ensures,
       ne-eqb _ _ (some .if1 .left),
       ← free .before .slot-of .ensures,

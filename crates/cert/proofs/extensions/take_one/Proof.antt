@@ -3,40 +3,39 @@ use Rattle.cert.proofs.Cases.{taken-case}
 use mathlib.Core.Path.{sym, _∙_}
 use Rattle.der.specs.Model.{onContent}
 use Rattle.cert.specs.Model.{taken, onParsed, onKept}
-use borrow.Author.Needs.{needs}
 use Rattle.cert.proofs.extensions.take_one.Statement.{statement}
 use Rattle.cert.proofs.extensions.take_one.Tie as tie
 
 expect-requires : tie.Need-expect-requires
-expect-requires c κs = search needs
+expect-requires c κs = tt
 
 enum-known-p : tie.Need-enum-known-p
-enum-known-p c = search needs
+enum-known-p c = c .match .keys1
 
 enum-known-e : tie.Need-enum-known-e
-enum-known-e c = search needs
+enum-known-e c = c .match .keys2
 
 returns : tie.Need-returns
 unfolding taken onParsed onKept onContent
 returns c =
     let arm = c .before in
-    simp (← arm .before .before .expect .ensures, arm .e .given .1)
+    rw (← arm .before .before .expect .ensures, arm .e .given .1)
 
 extension-in-requires : tie.Need-extension-in-requires
-extension-in-requires c κs = search needs
+extension-in-requires c κs = tt
 
 enum-known-x : tie.Need-enum-known-x
-enum-known-x c = search needs
+enum-known-x c = c .match2 .keys1
 
 enum-known-e-2 : tie.Need-enum-known-e-2
-enum-known-e-2 c = search needs
+enum-known-e-2 c = c .match2 .keys2
 
 returns-2 : tie.Need-returns-2
 unfolding taken onParsed onKept onContent
 returns-2 c =
     let second = c .before in
     let first = second .before .before .before .before in
-    simp (
+    rw (
       ← first .before .before .expect .ensures,
       first .p .given .1,
       ← second .before .before .extension-in .ensures,
@@ -44,13 +43,13 @@ returns-2 c =
     )
 
 remember-requires : tie.Need-remember-requires
-remember-requires c κs = search needs
+remember-requires c κs = tt
 
 enum-known-k : tie.Need-enum-known-k
-enum-known-k c = search needs
+enum-known-k c = c .match3 .keys1
 
 enum-known-e-3 : tie.Need-enum-known-e-3
-enum-known-e-3 c = search needs
+enum-known-e-3 c = c .match3 .keys2
 
 returns-3 : tie.Need-returns-3
 unfolding taken onParsed onKept onContent
@@ -58,7 +57,7 @@ returns-3 c =
     let third = c .before in
     let second = third .before .before .before .before in
     let first = second .before .before .before .before in
-    simp (
+    rw (
       ← first .before .before .expect .ensures,
       first .p .given .1,
       ← second .before .before .extension-in .ensures,
@@ -85,7 +84,7 @@ returns-5 c =
     let third = c .before .before .before .before .before in
     let second = third .before .before .before .before in
     let first = second .before .before .before .before in
-    simp (
+    rw (
       ← first .before .before .expect .ensures,
       first .p .given .1,
       ← second .before .before .extension-in .ensures,

@@ -6,7 +6,6 @@ use Rattle.names.specs.declared.general.Verdict.the-variants.{Refused}
 use Rattle.der.proofs.Loop.{Going, start, turn, stop, finish}
 use Rattle.names.specs.Model.{tryName, onTried, goodFor}
 use Rattle.names.proofs.Laws.{try-later, go-on, go-hit, go-broke}
-use borrow.Author.Needs.{needs}
 use native.Mathlib.Omega.{arith}
 use Rattle.names.proofs.general.good_for.Statement.{statement}
 use Rattle.names.proofs.general.good_for.Tie as tie
@@ -22,10 +21,10 @@ unfolding goodFor
 loop-holds c = start _ _ _ _ _
 
 try-name-requires : tie.Need-try-name-requires Inv-loop μ-loop
-try-name-requires c κs = search needs
+try-name-requires c κs = tt
 
 enum-known-next : tie.Need-enum-known-next Inv-loop μ-loop
-enum-known-next c = search needs
+enum-known-next c = c .match .keys1
 
 loop-less : tie.Need-loop-less Inv-loop μ-loop
 loop-less c = let l = try-later _ _ _ _ _ _ (sym (c .before .before .before .try-name .ensures) ∙ c .before .next .given .1) in omega arith
@@ -34,13 +33,13 @@ loop-again : tie.Need-loop-again Inv-loop μ-loop
 loop-again c = let found = sym (c .before .before .before .try-name .ensures) ∙ c .before .next .given .1 in let l = try-later _ _ _ _ _ _ found in turn _ _ _ _ _ _ _ (c .before .before .before .before .before .loop .inv) (omega arith) l (go-on found)
 
 enum-told : tie.Need-enum-told Inv-loop μ-loop
-enum-told c = search needs
+enum-told c = c .match .keys2
 
 returns : tie.Need-returns Inv-loop μ-loop
 returns c = stop _ _ _ _ _ _ (c .before .before .before .before .loop .inv) (omega arith) (go-hit (sym (c .before .before .try-name .ensures) ∙ c .enum-told .given .1))
 
 enum-known-e : tie.Need-enum-known-e Inv-loop μ-loop
-enum-known-e c = search needs
+enum-known-e c = c .match .keys3
 
 returns-2 : tie.Need-returns-2 Inv-loop μ-loop
 returns-2 c = stop _ _ _ _ _ _ (c .before .before .before .before .before .loop .inv) (omega arith) (go-broke (sym (c .before .before .before .try-name .ensures) ∙ c .before .e .given .1))

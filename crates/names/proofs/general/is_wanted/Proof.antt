@@ -20,19 +20,19 @@ part-p-end : tie.Need-part-p-end
 part-p-end c = search needs
 
 match-wanted-requires : tie.Need-match-wanted-requires
-match-wanted-requires c κs = search needs
+match-wanted-requires c κs = tt
 
 enum-told : tie.Need-enum-told
-enum-told c = search needs
+enum-told c = c .match .keys1
 
 enum-told-2 : tie.Need-enum-told-2
-enum-told-2 c = search needs
+enum-told-2 c = c .match .keys2
 
 enum-told-3 : tie.Need-enum-told-3
-enum-told-3 c = search needs
+enum-told-3 c = c .match .keys3
 
 same-address-requires : tie.Need-same-address-requires
-same-address-requires c κs = search needs
+same-address-requires c κs = tt
 
 returns-2 : tie.Need-returns-2
 unfolding isWanted fits isYes part

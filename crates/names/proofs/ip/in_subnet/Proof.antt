@@ -5,7 +5,6 @@ use mathlib.Core.Bool.{true}
 use lib.ListN.{length, drop}
 use Rattle.names.specs.Model.{subnetFrom}
 use Rattle.names.proofs.Laws.{subnet-turn, subnet-differs, subnet-broken, subnet-end}
-use borrow.Author.Needs.{needs}
 use native.Mathlib.Omega.{arith}
 use Rattle.names.proofs.ip.in_subnet.Statement.{statement}
 use Rattle.names.proofs.ip.in_subnet.Tie as tie
@@ -29,10 +28,10 @@ shared-slice-read-masked-byte-2 : tie.Need-shared-slice-read-masked-byte-2 Inv-l
 shared-slice-read-masked-byte-2 c = omega arith
 
 masked-byte-requires : tie.Need-masked-byte-requires Inv-loop μ-loop
-masked-byte-requires c κs = search needs
+masked-byte-requires c κs = tt
 
 enum-told : tie.Need-enum-told Inv-loop μ-loop
-enum-told c = search needs
+enum-told c = c .match .keys1
 
 add-i : tie.Need-add-i Inv-loop μ-loop
 add-i c = omega arith
@@ -44,13 +43,13 @@ loop-again : tie.Need-loop-again Inv-loop μ-loop
 loop-again c = (omega arith, subnet-turn _ (c .before .before .before .before .before .before .before .before .before .before .before .args .p .now) (c .before .before .before .before .before .before .before .before .before .before .before .args .address .now) (c .before .before .before .before .before .before .before .before .before .before .before .args .mask .now) (c .before .before .before .before .before .before .before .loop .i) (omega arith) (omega arith) (omega arith) (sym (c .before .before .masked-byte .ensures) ∙ c .enum-told .given .1) ∙ c .before .before .before .before .before .before .before .loop .inv .1)
 
 enum-told-2 : tie.Need-enum-told-2 Inv-loop μ-loop
-enum-told-2 c = search needs
+enum-told-2 c = c .match .keys2
 
 returns : tie.Need-returns Inv-loop μ-loop
 returns c = sym (sym (c .before .before .before .before .before .before .before .loop .inv .1) ∙ subnet-differs _ (c .before .before .before .before .before .before .before .before .before .before .before .args .p .now) (c .before .before .before .before .before .before .before .before .before .before .before .args .address .now) (c .before .before .before .before .before .before .before .before .before .before .before .args .mask .now) (c .before .before .before .before .before .before .before .loop .i) (omega arith) (omega arith) (omega arith) (sym (c .before .before .masked-byte .ensures) ∙ c .enum-told2 .given .1))
 
 enum-told-3 : tie.Need-enum-told-3 Inv-loop μ-loop
-enum-told-3 c = search needs
+enum-told-3 c = c .match .keys3
 
 returns-2 : tie.Need-returns-2 Inv-loop μ-loop
 returns-2 c = sym (sym (c .before .before .before .before .before .before .before .loop .inv .1) ∙ subnet-broken _ (c .before .before .before .before .before .before .before .before .before .before .before .args .p .now) (c .before .before .before .before .before .before .before .before .before .before .before .args .address .now) (c .before .before .before .before .before .before .before .before .before .before .before .args .mask .now) (c .before .before .before .before .before .before .before .loop .i) (omega arith) (omega arith) (omega arith) (sym (c .before .before .masked-byte .ensures) ∙ c .enum-told3 .given .1))

@@ -6,11 +6,11 @@ use Rattle.names.proofs.ip.masked_byte.Statement.{statement}
 use Rattle.names.proofs.ip.masked_byte.Tie as tie
 
 broken-mask-requires : tie.Need-broken-mask-requires
-broken-mask-requires c κs = search needs
+broken-mask-requires c κs = tt
 
 returns : tie.Need-returns
 unfolding maskedByte
-returns c = search (← c .before .broken-mask .ensures, c .if1 .taken)
+returns c = rw (← c .before .broken-mask .ensures, c .if1 .taken)
 
 sub-block : tie.Need-sub-block
 sub-block c = search needs

@@ -8,18 +8,18 @@ use Rattle.names.proofs.ip.match_subnet.Statement.{statement}
 use Rattle.names.proofs.ip.match_subnet.Tie as tie
 
 neither-requires : tie.Need-neither-requires
-neither-requires c κs = search needs
+neither-requires c κs = tt
 
 returns : tie.Need-returns
 unfolding matchSubnet
-returns c = search (← c .before .neither .ensures, c .if1 .taken)
+returns c = rw (← c .before .neither .ensures, c .if1 .taken)
 
 neither-requires-2 : tie.Need-neither-requires-2
-neither-requires-2 c κs = search needs
+neither-requires-2 c κs = tt
 
 returns-2 : tie.Need-returns-2
 unfolding matchSubnet
-returns-2 c = search (← c .before .before .before .neither .ensures, c .before .before .if1 .left, ← c .before .neither2 .ensures, c .if2 .taken)
+returns-2 c = rw (← c .before .before .before .neither .ensures, c .before .before .if1 .left, ← c .before .neither2 .ensures, c .if2 .taken)
 
 mul-if3 : tie.Need-mul-if3
 mul-if3 c = search needs

@@ -14,7 +14,7 @@ shared-slice-copy-out-t : tie.Need-shared-slice-copy-out-t
 shared-slice-copy-out-t c = search needs
 
 parts-requires : tie.Need-parts-requires
-parts-requires c κs = search needs
+parts-requires c κs = tt
 
 returns : tie.Need-returns
 returns c = c .parts .ensures ∙ sym (key-lent _ _ (c .before .before .before .before .before .args .keys .now) _ _ (omega arith) _ (omega arith))
@@ -23,19 +23,19 @@ returns-2 : tie.Need-returns-2
 returns-2 c = sym (key-beyond _ _ (c .before .before .before .args .keys .now) _ _ (omega arith) (omega arith))
 
 certificate-requires : tie.Need-certificate-requires
-certificate-requires c κs = search needs
+certificate-requires c κs = tt
 
 read-requires : tie.Need-read-requires
-read-requires c κs = search needs
+read-requires c κs = tt
 
 enum-known-c : tie.Need-enum-known-c
-enum-known-c c = search needs
+enum-known-c c = c .match .keys1
 
 parts-requires-2 : tie.Need-parts-requires-2
-parts-requires-2 c κs = search needs
+parts-requires-2 c κs = tt
 
 enum-known-e : tie.Need-enum-known-e
-enum-known-e c = search needs
+enum-known-e c = c .match .keys2
 
 returns-3 : tie.Need-returns-3
 unfolding keyOf onReading

@@ -1,5 +1,4 @@
 use Rattle.path.specs.Model.{replyOf, replyFor}
-use borrow.Author.Needs.{needs}
 use Rattle.der.proofs.Laws.{tests}
 use Rattle.path.proofs.asked.reply_for.Statement.{statement}
 use Rattle.path.proofs.asked.reply_for.Tie as tie
@@ -9,13 +8,13 @@ unfolding replyOf
 returns c = search tests
 
 key-of-requires : tie.Need-key-of-requires
-key-of-requires c κs = search needs
+key-of-requires c κs = tt
 
 enum-known-e : tie.Need-enum-known-e
-enum-known-e c = search needs
+enum-known-e c = c .match .keys1
 
 enum-told : tie.Need-enum-told
-enum-told c = search needs
+enum-told c = c .match .keys2
 
 returns-2 : tie.Need-returns-2
 unfolding replyOf replyFor

@@ -18,7 +18,7 @@ shared-slice-copy-out-key : tie.Need-shared-slice-copy-out-key
 shared-slice-copy-out-key c = search needs
 
 anchor-verdict-requires : tie.Need-anchor-verdict-requires
-anchor-verdict-requires c κs = search needs
+anchor-verdict-requires c κs = tt
 
 returns : tie.Need-returns
 returns c = c .anchor-verdict .ensures ∙ sym (anchor-lent (c .before .before .before .before .before .args .subjects .now) (c .before .before .before .before .before .args .keys .now) _ _ _ _ _ _ (omega arith) (omega arith))

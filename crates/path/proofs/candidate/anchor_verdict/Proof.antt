@@ -1,26 +1,24 @@
 use Rattle.path.specs.Model.{anchorVerdict}
-use borrow.Author.Needs.{needs}
-use Rattle.der.proofs.Laws.{tests}
 use Rattle.path.proofs.candidate.anchor_verdict.Statement.{statement}
 use Rattle.path.proofs.candidate.anchor_verdict.Tie as tie
 
 same-requires : tie.Need-same-requires
-same-requires c κs = search needs
+same-requires c κs = tt
 
 is-distrusted-requires : tie.Need-is-distrusted-requires
-is-distrusted-requires c κs = search needs
+is-distrusted-requires c κs = tt
 
 returns : tie.Need-returns
 unfolding anchorVerdict
-returns c = search (tests, ← c .before .before .before .same .ensures, c .before .before .if1 .taken, ← c .before .is-distrusted .ensures, c .if2 .taken)
+returns c = rw (← c .before .before .before .same .ensures, c .before .before .if1 .taken, ← c .before .is-distrusted .ensures, c .if2 .taken)
 
 returns-2 : tie.Need-returns-2
 unfolding anchorVerdict
-returns-2 c = search (tests, ← c .before .before .before .same .ensures, c .before .before .if1 .taken, ← c .before .is-distrusted .ensures, c .if2 .left)
+returns-2 c = rw (← c .before .before .before .same .ensures, c .before .before .if1 .taken, ← c .before .is-distrusted .ensures, c .if2 .left)
 
 returns-3 : tie.Need-returns-3
 unfolding anchorVerdict
-returns-3 c = search (tests, ← c .before .same .ensures, c .if1 .left)
+returns-3 c = rw (← c .before .same .ensures, c .if1 .left)
 
 pub anchor-verdict-spec : {M : Type 1} → statement M
 anchor-verdict-spec =

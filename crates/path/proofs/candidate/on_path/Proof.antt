@@ -2,7 +2,6 @@ use mathlib.Core.List.{map}
 use denote.Ref.{now}
 use mathlib.Core.Path.{sym, _∙_}
 use Rattle.path.proofs.Laws.{OnLower, path-start, path-turn, path-found, path-end}
-use borrow.Author.Needs.{needs}
 use native.Mathlib.Omega.{arith}
 use Rattle.path.proofs.candidate.on_path.Statement.{statement}
 use Rattle.path.proofs.candidate.on_path.Tie as tie
@@ -23,13 +22,13 @@ sub-k : tie.Need-sub-k Inv-loop μ-loop
 sub-k c = omega arith
 
 number-at-requires : tie.Need-number-at-requires Inv-loop μ-loop
-number-at-requires c κs = search needs
+number-at-requires c κs = tt
 
 certificate-requires : tie.Need-certificate-requires Inv-loop μ-loop
-certificate-requires c κs = search needs
+certificate-requires c κs = tt
 
 has-both-requires : tie.Need-has-both-requires Inv-loop μ-loop
-has-both-requires c κs = search needs
+has-both-requires c κs = tt
 
 returns : tie.Need-returns Inv-loop μ-loop
 returns c = path-found _ _ _ _ _ _ _ _ _ (omega arith) (c .before .before .before .number-at .ensures) (c .before .before .certificate .ensures) (sym (c .before .has-both .ensures) ∙ c .if1 .taken) (c .before .before .before .before .before .loop .inv)

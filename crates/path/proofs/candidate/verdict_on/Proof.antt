@@ -11,16 +11,16 @@ returns : tie.Need-returns
 returns c = verdict-deep _ _ (c .before .before .args .path) (c .before .before .args .depth) _ _ _ (c .before .before .args .i) (omega arith)
 
 number-at-requires : tie.Need-number-at-requires
-number-at-requires c κs = search needs
+number-at-requires c κs = tt
 
 certificate-requires : tie.Need-certificate-requires
-certificate-requires c κs = search needs
+certificate-requires c κs = tt
 
 read-requires : tie.Need-read-requires
-read-requires c κs = search needs
+read-requires c κs = tt
 
 enum-known-c : tie.Need-enum-known-c
-enum-known-c c = search needs
+enum-known-c c = c .match .keys1
 
 anchor-at-requires : tie.Need-anchor-at-requires
 anchor-at-requires c κs = search needs
@@ -29,13 +29,13 @@ returns-2 : tie.Need-returns-2
 returns-2 c = let arm = c .before .before .before .before in c .anchor-at .ensures ∙ verdict-anchor _ _ (c .before .before .before .before .before .before .before .before .before .before .before .args .path) (c .before .before .before .before .before .before .before .before .before .before .before .args .depth) _ _ _ _ (sym (length-map (c .before .before .before .before .before .before .before .before .before .before .before .args .subjects .now) now)) (omega arith) (arm .before .before .before .before .number-at .ensures) (arm .before .before .before .certificate .ensures) (sym (arm .before .before .read .ensures) ∙ arm .c .given .1) (omega arith)
 
 certificate-requires-2 : tie.Need-certificate-requires-2
-certificate-requires-2 c κs = search needs
+certificate-requires-2 c κs = tt
 
 issuer-verdict-requires : tie.Need-issuer-verdict-requires
 issuer-verdict-requires c κs = search needs
 
 enum-known-e : tie.Need-enum-known-e
-enum-known-e c = search needs
+enum-known-e c = c .match .keys2
 
 returns-3 : tie.Need-returns-3
 returns-3 c = let arm = c .before .before .before .before .before in c .issuer-verdict .ensures ∙ verdict-issuer _ _ (c .before .before .before .before .before .before .before .before .before .before .before .before .args .path) (c .before .before .before .before .before .before .before .before .before .before .before .before .args .depth) _ _ _ _ (sym (length-map (c .before .before .before .before .before .before .before .before .before .before .before .before .args .subjects .now) now)) (omega arith) (arm .before .before .before .before .number-at .ensures) (arm .before .before .before .certificate .ensures) (sym (arm .before .before .read .ensures) ∙ arm .c .given .1) (omega arith) (c .before .certificate2 .ensures)

@@ -23,7 +23,7 @@ shared-slice-copy-out-t : tie.Need-shared-slice-copy-out-t Inv-loop μ-loop
 shared-slice-copy-out-t c = search needs
 
 same-requires : tie.Need-same-requires Inv-loop μ-loop
-same-requires c κs = search needs
+same-requires c κs = tt
 
 returns : tie.Need-returns Inv-loop μ-loop
 returns c = listed-found (c .before .before .before .before .before .before .args .distrusted .now) _ _ _ _ _ (omega arith) (sym (c .before .same .ensures) ∙ c .if1 .taken) (c .before .before .before .before .loop .inv)

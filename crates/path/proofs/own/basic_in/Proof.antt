@@ -1,28 +1,27 @@
 use Rattle.cert.specs.Model.{onTruth}
 use Rattle.path.specs.Model.{basicIn}
-use borrow.Author.Needs.{needs}
 use Rattle.der.proofs.Laws.{tests}
 use Rattle.path.proofs.own.basic_in.Statement.{statement}
 use Rattle.path.proofs.own.basic_in.Tie as tie
 
 read-bool-requires : tie.Need-read-bool-requires
-read-bool-requires c κs = search needs
+read-bool-requires c κs = tt
 
 enum-known-authority : tie.Need-enum-known-authority
-enum-known-authority c = search needs
+enum-known-authority c = c .match .keys1
 
 in-role-requires : tie.Need-in-role-requires
-in-role-requires c κs = search needs
+in-role-requires c κs = tt
 
 returns : tie.Need-returns
 unfolding basicIn onTruth
 returns c = let arm = c .before .before .before in search (tests, ← arm .before .before .read-bool .ensures, arm .authority .given .1, ← c .in-role .ensures)
 
 bounded-role-requires : tie.Need-bounded-role-requires
-bounded-role-requires c κs = search needs
+bounded-role-requires c κs = tt
 
 enum-known-e : tie.Need-enum-known-e
-enum-known-e c = search needs
+enum-known-e c = c .match .keys2
 
 returns-2 : tie.Need-returns-2
 unfolding basicIn onTruth
@@ -30,7 +29,7 @@ returns-2 c = let arm = c .before .before .before in search (tests, ← arm .bef
 
 returns-3 : tie.Need-returns-3
 unfolding basicIn onTruth
-returns-3 c = let arm = c .before in search (tests, ← arm .before .before .read-bool .ensures, arm .e .given .1)
+returns-3 c = let arm = c .before in rw (← arm .before .before .read-bool .ensures, arm .e .given .1)
 
 pub basic-in-spec : {M : Type 1} → statement M
 basic-in-spec =

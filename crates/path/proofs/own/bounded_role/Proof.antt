@@ -5,16 +5,16 @@ use Rattle.path.proofs.own.bounded_role.Statement.{statement}
 use Rattle.path.proofs.own.bounded_role.Tie as tie
 
 read-small-requires : tie.Need-read-small-requires
-read-small-requires c κs = search needs
+read-small-requires c κs = tt
 
 enum-known-value : tie.Need-enum-known-value
-enum-known-value c = search needs
+enum-known-value c = c .match .keys1
 
 cast-in-role : tie.Need-cast-in-role
 cast-in-role c = search needs
 
 in-role-requires : tie.Need-in-role-requires
-in-role-requires c κs = search needs
+in-role-requires c κs = tt
 
 returns : tie.Need-returns
 unfolding boundedRole onNumber firstOf
@@ -25,7 +25,7 @@ unfolding boundedRole onNumber firstOf
 returns-2 c = let arm = c .before .before .before .before in search (tests, ← arm .before .before .read-small .ensures, arm .value .given .1, ← c .before .before .in-role .ensures)
 
 enum-known-e : tie.Need-enum-known-e
-enum-known-e c = search needs
+enum-known-e c = c .match .keys2
 
 returns-3 : tie.Need-returns-3
 unfolding boundedRole onNumber firstOf
@@ -33,7 +33,7 @@ returns-3 c = let arm = c .before .before .before .before in search (tests, ← 
 
 returns-4 : tie.Need-returns-4
 unfolding boundedRole onNumber firstOf
-returns-4 c = let arm = c .before in search (tests, ← arm .before .before .read-small .ensures, arm .e .given .1)
+returns-4 c = let arm = c .before in rw (← arm .before .before .read-small .ensures, arm .e .given .1)
 
 pub bounded-role-spec : {M : Type 1} → statement M
 bounded-role-spec =

@@ -1,25 +1,24 @@
 use Rattle.path.specs.Model.{ownOf, firstOf}
-use borrow.Author.Needs.{needs}
 use Rattle.der.proofs.Laws.{tests}
 use Rattle.path.proofs.own.checks.Statement.{statement}
 use Rattle.path.proofs.own.checks.Tie as tie
 
 validity-requires : tie.Need-validity-requires
-validity-requires c κs = search needs
+validity-requires c κs = tt
 
 returns : tie.Need-returns
 unfolding ownOf firstOf
 returns c = search (tests, ← c .before .validity .ensures)
 
 basic-requires : tie.Need-basic-requires
-basic-requires c κs = search needs
+basic-requires c κs = tt
 
 returns-2 : tie.Need-returns-2
 unfolding ownOf firstOf
 returns-2 c = search (tests, ← c .before .before .before .before .before .validity .ensures, ← c .before .basic .ensures)
 
 purposes-requires : tie.Need-purposes-requires
-purposes-requires c κs = search needs
+purposes-requires c κs = tt
 
 returns-3 : tie.Need-returns-3
 unfolding ownOf firstOf

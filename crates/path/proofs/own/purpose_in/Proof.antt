@@ -3,7 +3,6 @@ use mathlib.Core.Path.{sym, _∙_}
 use Rattle.der.proofs.Loop.{Going, start, turn, stop, finish}
 use Rattle.path.specs.Model.{purposeStep, noPurpose, purposeIn}
 use Rattle.path.proofs.Purposes.{step-later, step-next, step-found, step-refused}
-use borrow.Author.Needs.{needs}
 use native.Mathlib.Omega.{arith}
 use Rattle.path.proofs.own.purpose_in.Statement.{statement}
 use Rattle.path.proofs.own.purpose_in.Tie as tie
@@ -19,13 +18,13 @@ unfolding purposeIn
 loop-holds c = start _ _ _ _ _
 
 expect-requires : tie.Need-expect-requires Inv-loop μ-loop
-expect-requires c κs = search needs
+expect-requires c κs = tt
 
 enum-known-p : tie.Need-enum-known-p Inv-loop μ-loop
-enum-known-p c = search needs
+enum-known-p c = c .match .keys1
 
 same-requires : tie.Need-same-requires Inv-loop μ-loop
-same-requires c κs = search needs
+same-requires c κs = tt
 
 returns : tie.Need-returns Inv-loop μ-loop
 returns c =
@@ -45,7 +44,7 @@ loop-again c =
     turn _ _ _ _ _ _ _ (c .before .before .before .before .before .before .before .loop .inv) (omega arith) (omega arith) (step-next _ _ _ _ found (sym (c .before .same .ensures) ∙ c .if1 .left))
 
 enum-known-e : tie.Need-enum-known-e Inv-loop μ-loop
-enum-known-e c = search needs
+enum-known-e c = c .match .keys2
 
 returns-2 : tie.Need-returns-2 Inv-loop μ-loop
 returns-2 c =

@@ -1,5 +1,4 @@
 use Rattle.path.specs.Model.{purposesOf}
-use borrow.Author.Needs.{needs}
 use Rattle.der.proofs.Laws.{tests}
 use Rattle.path.proofs.own.purposes.Statement.{statement}
 use Rattle.path.proofs.own.purposes.Tie as tie
@@ -9,7 +8,7 @@ unfolding purposesOf
 returns c = search (tests, c .before .if1 .taken)
 
 purpose-in-requires : tie.Need-purpose-in-requires
-purpose-in-requires c κs = search needs
+purpose-in-requires c κs = tt
 
 returns-2 : tie.Need-returns-2
 unfolding purposesOf
@@ -17,11 +16,11 @@ returns-2 c = search (tests, c .before .before .if1 .taken, ← c .purpose-in .e
 
 returns-3 : tie.Need-returns-3
 unfolding purposesOf
-returns-3 c = search (tests, c .before .if1 .left, c .if3 .taken)
+returns-3 c = rw (c .before .if1 .left, c .if3 .taken)
 
 returns-4 : tie.Need-returns-4
 unfolding purposesOf
-returns-4 c = search (tests, c .before .if1 .left, c .if3 .left)
+returns-4 c = rw (c .before .if1 .left, c .if3 .left)
 
 pub purposes-spec : {M : Type 1} → statement M
 purposes-spec = tie.close (tie.spec returns purpose-in-requires returns-2 returns-3 returns-4)

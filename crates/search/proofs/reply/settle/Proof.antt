@@ -23,7 +23,7 @@ returns c W K j g asks holds last =
     let x = c .before .before .before .names .result in
     let e = c .before .before .before .names .ensures in
     let n = never-spent (map now (a .issuers .now)) (a .end .now) (a .anchors) (map now (a .constraints .now)) (a .bound .now) (s .anchor) (here s) in
-    names-out W s (c .before .before .before .before .before .before .before .pre) asks g holds last (omega (arith, spent-out (s .comparisons) T x e n (c .before .before .if1 .taken), j .cost (s .anchor) (here s)))
+    names-out W s (c .before .before .before .before .before .before .before .pre) asks g holds last (x .left) (omega (arith, spent-out (s .comparisons) T x e n (c .before .before .if1 .taken), j .cost (s .anchor) (here s)))
 
 returns-2 : tie.Need-returns-2
 returns-2 c W K j g asks holds last =

@@ -1,0 +1,5 @@
+pub mod Lent
+pub mod Paths
+pub mod Names
+pub mod Closed
+pub mod Decided

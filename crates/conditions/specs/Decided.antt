@@ -1,0 +1,75 @@
+-- What every dialogue with a request decides, whatever the caller answers.
+use Prim.Native.Nat.{ℕ, suc, _+_, _*_, _≤_}
+use mathlib.Core.Path.{_≡_}
+use mathlib.Core.Bool.{true, false}
+use mathlib.Core.List.{List, [], _∷_, _++_, List·Memᴰ}
+use lib.ListN.{length, take}
+use Rattle.refusal.specs.Refusals.{isFatal, unknownIssuer}
+use Rattle.cert.specs.declared.Reading.the-variants.{Refused as Unreadable}
+use Rattle.cert.specs.Model.{readCertificate}
+use Rattle.dialogue.specs.Model.{Path, Outcome, accepted, refused, spent, events}
+use Rattle.dialogue.specs.Dialogue.{Turn, answer, word, Leads, asked, Oracle, Veto, Agrees}
+use Rattle.dialogue.specs.Account.{Account, ownCost, Exhausted, UsedUp}
+use Rattle.dialogue.specs.Acceptable.{GivenContent, ByContent}
+use Rattle.dialogue.specs.Work.{weight, aTry, reads}
+use Rattle.conditions.specs.Request.{Request, Budgets}
+use Rattle.conditions.specs.Model.{nameOf, worldFor, endOf, searchOf}
+use Rattle.conditions.specs.Conditions.{Named, Conditions}
+
+-- the answer 0 is yes: given among the turns, and by a function
+abbrev pub GivenYes : List Turn → ℕ → ℕ → Type 0
+GivenYes turns key what = List·Memᴰ (answer key what 0) turns
+
+abbrev pub ByYes : Oracle → ℕ → ℕ → Type 0
+ByYes o key what = o key what ≡ 0
+
+-- every signature of a path, from the anchor's key down, answered yes
+unfoldable pub yeses : ℕ → Path → List Turn
+yeses key [] = []
+yeses key (n ∷ ns) = answer key n 0 ∷ yeses n ns
+
+-- the dialogue ends with these very turns, and the caller content
+abbrev pub Closes : List Turn → ℕ → Path → Type 0
+Closes turns anchor path = (earlier : List Turn) × (turns ≡ earlier ++ (yeses anchor path ++ (word anchor path 0 ∷ [])))
+
+module _ (R : Request) (B : Budgets) (turns : List Turn) where
+  -- which no
+  pub data Which (x : ℕ) : Type 0 where
+    -- the end entity cannot be read: why, before anything is asked
+    unread : readCertificate (R .end) true ≡ Unreadable x → turns ≡ [] → Which x
+    -- there is no path: of all that was noted, in the order of the search, the first of the highest rank
+    no-path : Exhausted (worldFor R) (endOf R) turns x → Which x
+    -- there is one, and the end entity is not good for the wanted name: why
+    other-name : (anchor : ℕ) (path : Path) → Leads (searchOf R B) turns (accepted anchor path) → nameOf (R .end) (R .kind) (R .name) ≡ x → (Named R → ⊥) → Which x
+
+  -- what was done: nothing where the end entity cannot be read, else a search, with its account. A, I: anchors and intermediates; S, C, N: the budgets
+  pub data Work : Type 0 where
+    nothing : (x : ℕ) → readCertificate (R .end) true ≡ Unreadable x → turns ≡ [] → Work
+    searched : (found : Outcome) → Leads (searchOf R B) turns found
+        → (account : Account (worldFor R) (events (worldFor R) (endOf R)) (B .signatures) (B .extensions) (B .comparisons) unknownIssuer turns found)
+        -- at most C extensions, and N comparisons, those of an accepted path among them
+        → account .extensions ≤ B .extensions
+        → account .comparisons + ownCost (worldFor R) found ≤ B .comparisons
+        -- at most (A + I + 1)(C + 1) events were gone through
+        → length (account .before) + length (take 1 (account .after)) ≤ suc (endOf R) * suc (B .extensions)
+        -- at most A (C + 1) of them were anchors that were tried
+        → weight aTry (account .before) + weight aTry (take 1 (account .after)) ≤ length (R .subjects) * suc (B .extensions)
+        -- and at most (35 A + 10 I + 10)(C + 1) certificates were read on the way, beside those of questions and answers
+        → weight reads (account .before) + weight reads (take 1 (account .after)) ≤ (10 * suc (endOf R) + 25 * length (R .subjects)) * suc (B .extensions)
+        → Work
+
+  pub record Decided (r : Outcome) : Type 0 where
+    -- yes means yes: an accepted path meets the conditions, by answers of this dialogue, the last of which were asked for, and given, for this very path
+    pub yes : (anchor : ℕ) (path : Path) → r ≡ accepted anchor path → Conditions R (GivenYes turns) (GivenContent turns) anchor path
+    pub closing : (anchor : ℕ) (path : Path) → r ≡ accepted anchor path → Closes turns anchor path
+    -- no means no: after a refusal no anchor and path meet them, for any functions that agree with the answers given
+    pub no : (x : ℕ) → r ≡ refused x → (o : Oracle) (v : Veto) → Agrees o v turns → (anchor : ℕ) (path : Path) → Conditions R (ByYes o) (ByContent v) anchor path → ⊥
+    pub which : (x : ℕ) → r ≡ refused x → Which x
+    -- and it says of no budget that it is used up
+    pub not-fatal : (x : ℕ) → r ≡ refused x → isFatal x ≡ false
+    -- the third end is a budget, used up: one more was wanted than is allowed
+    pub used-up : (x : ℕ) → r ≡ spent x → UsedUp (worldFor R) (endOf R) (B .signatures) (B .extensions) (B .comparisons) turns x
+    pub fatal : (x : ℕ) → r ≡ spent x → isFatal x ≡ true
+    -- at most S signature questions
+    pub questions : asked turns ≤ B .signatures
+    pub work : Work

@@ -1,0 +1,11 @@
+pub mod Runs
+pub mod Events
+pub mod Answers
+pub mod Rank
+pub mod Sound
+pub mod Complete
+pub mod Budgets
+pub mod Work
+pub mod Recursion
+pub mod Decided
+pub mod Examples

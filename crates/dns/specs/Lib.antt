@@ -1,0 +1,4 @@
+pub mod Names
+pub mod Stricter
+pub mod Answers
+pub mod Model

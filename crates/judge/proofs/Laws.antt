@@ -1,0 +1,239 @@
+-- Steps, the states they hold, and the dialogue: a state is shown as it is, and an answer goes on from it. Assumes nothing.
+use Prim.Native.Nat.{ℕ, zero, suc, _+_, _*_, _≤_, _<_}
+use mathlib.Core.Path.{_≡_, refl, sym, _∙_, ap, subst}
+use mathlib.Core.Bool.{Bool, true, false, cond}
+use mathlib.Core.List.{List, [], _∷_, _++_, map}
+use native.Mathlib.Omega.{arith}
+use lib.Dec.{ltb, eqb}
+use lib.ListN.{length, getD, take, length-map}
+use denote.Ref.{RefT, now}
+use borrow.Author.Tests.{le-ltb, ltb-true, ltb-false, ne-eqb}
+use Rattle.refusal.specs.Refusals.{maximumPathDepthExceeded}
+use Rattle.cert.specs.declared.Certificate.{Certificate}
+use Rattle.cert.specs.declared.Reading.the-variants.{Accepted, Refused as NoCertificate}
+use Rattle.cert.specs.Model.{readCertificate}
+use Rattle.der.specs.declared.Span.{Span}
+use Rattle.cert.specs.declared.key.Key.{Key}
+use Rattle.cert.specs.declared.key.Key.the-variants.{Parts, Refused as NoKey}
+use Rattle.path.specs.declared.asked.Question.{Question}
+use Rattle.path.specs.declared.asked.Question.the-variants.{Of}
+use Rattle.path.specs.Model.{onReading, questionOf}
+use Rattle.path.specs.Lent.{pre}
+use Rattle.dialogue.specs.Model.{World, Outcome, accepted, refused, spent, Tree, done, ask, offer, unless}
+use Rattle.dialogue.specs.Dialogue.{give, follow}
+use Rattle.search.specs.declared.Numbers.{Numbers}
+use Rattle.search.specs.declared.State.{State}
+use Rattle.search.specs.declared.Phase.{Phase}
+use Rattle.search.specs.declared.Phase.the-variants.{Walk, Ask, Offer, Found, Refused, Spent}
+use Rattle.search.specs.Machine.{phaseTree, treeOf, keyAt, whatAt, effort, Stands, Ran, Halted, begun, Started}
+use Rattle.search.specs.World.{worldOf}
+use Rattle.search.proofs.Whole.{ran-bound}
+use Rattle.dialogue.proofs.Answers.{follow-more}
+use Rattle.conditions.specs.Request.{Request, Budgets}
+use Rattle.conditions.specs.Model.{nameOf, named, closed, worldFor, endOf, searchOf, decision}
+use Rattle.judge.specs.declared.Asked.{Asked}
+use Rattle.steps.specs.declared.Step.{Step}
+use Rattle.steps.specs.Model.{phaseOf, numberOf, refusalOf, stateOf, stepOf, isFound, shownAs, endedStep}
+use Rattle.judge.specs.Steps.{treeFrom, At, unread, ran, Run}
+use Rattle.judge.specs.Places.{nowhere, filledOf, askedOf}
+
+-- as many are lent as there are references
+pub counted : (S I : List (RefT (List ℕ))) → length S + length I ≡ length (map now S) + length (map now I)
+counted S I = rw (length-map S now, length-map I now)
+
+-- ---- the dialogue goes on the same, closed or not
+pub closed-give : (e : ℕ) (t : Tree) (a : ℕ) → closed e (give t a) ≡ give (closed e t) a
+unfolding closed give
+closed-give e (done r) a = refl
+closed-give e (ask key what t) a = refl
+closed-give e (offer anchor path t) a = refl
+
+pub closed-follow : (e : ℕ) (t : Tree) (said : List ℕ) → closed e (follow t said) ≡ follow (closed e t) said
+unfolding follow
+closed-follow e t [] = refl
+closed-follow e t (a ∷ said) = closed-follow e (give t a) said ∙ ap (λ (u : Tree). follow u said) (closed-give e t a)
+
+follow-done : (r : Outcome) (said : List ℕ) → follow (done r) said ≡ done r
+unfolding follow give
+follow-done r [] = refl
+follow-done r (a ∷ said) = follow-done r said
+
+-- ---- a step holds a state
+abbrev inPhase : State → Phase → State
+inPhase s p = record { path = s .path; next = s .next; depth = s .depth; at = s .at; anchor = s .anchor; signatures = s .signatures; extensions = s .extensions; comparisons = s .comparisons; best = s .best; phase = p }
+
+abbrev held : State → Bool → Phase → State
+held s long p = record { path = s .path; next = s .next; depth = cond long 0 (s .depth); at = s .at; anchor = s .anchor; signatures = s .signatures; extensions = s .extensions; comparisons = s .comparisons; best = s .best; phase = cond long (Refused maximumPathDepthExceeded) p }
+
+state-of-step : (s : State) (n e : ℕ) → s .depth < 7 → stateOf (stepOf s n e) ≡ inPhase s (phaseOf n e)
+unfolding stateOf
+state-of-step s n e l = ap (λ (b : Bool). held s b (phaseOf n e)) (le-ltb 6 (s .depth) (omega (arith, l)))
+
+-- a state that a search can be in, from any step
+pub fair : (t : Step) → (stateOf t .depth < 7) × (stateOf t .phase ≡ Walk → ⊥)
+unfolding stateOf phaseOf
+fair t = by (ltb 6 (t .depth)) refl
+  where
+    no : (b c d e : Bool) → cond b Ask (cond c Offer (cond d Found (cond e (Spent (t .refusal)) (Refused (t .refusal))))) ≡ Walk → ⊥
+    no true c d e h = let z : _≡_ {A = ℕ} 0 1 = cc in omega arith
+    no false true d e h = let z : _≡_ {A = ℕ} 0 1 = cc in omega arith
+    no false false true e h = let z : _≡_ {A = ℕ} 0 1 = cc in omega arith
+    no false false false true h = let z : _≡_ {A = ℕ} 0 1 = cc in omega arith
+    no false false false false h = let z : _≡_ {A = ℕ} 0 1 = cc in omega arith
+
+    by : (b : Bool) → ltb 6 (t .depth) ≡ b → (cond b 0 (t .depth) < 7) × (cond b (Refused maximumPathDepthExceeded) (phaseOf (t .phase) (t .refusal)) ≡ Walk → ⊥)
+    by true q = (omega arith, λ h. let z : _≡_ {A = ℕ} 0 1 = cc in omega arith)
+    by false q = (omega (arith, ltb-false 6 (t .depth) q), no (eqb (t .phase) 1) (eqb (t .phase) 2) (eqb (t .phase) 3) (eqb (t .phase) 5))
+
+module _ (R : Request) where
+  abbrev naming : ℕ
+  naming = nameOf (R .end) (R .kind) (R .name)
+
+  -- a step that holds s, and shows its phase
+  plain : (s : State) (p : Phase) → s .depth < 7 → s .phase ≡ p → phaseOf (numberOf p) (refusalOf p) ≡ p → stateOf (stepOf s (numberOf p) (refusalOf p)) ≡ s
+  plain s p l h k = state-of-step s (numberOf p) (refusalOf p) l ∙ ap (inPhase s) (k ∙ sym h)
+
+  stands : (s : State) (r : Step) → stateOf r ≡ s → treeFrom R r ≡ closed naming (treeOf (worldFor R) s)
+  unfolding treeFrom
+  stands s r h = ap (λ (u : State). closed naming (treeOf (worldFor R) u)) h
+
+  -- what a state is shown as, by its phase
+  by-phase : (s : State) (p : Phase) (e : ℕ) → naming ≡ e → s .depth < 7 → s .phase ≡ p → (p ≡ Walk → ⊥) → At R (closed e (phaseTree (worldFor R) s p)) (shownAs e s p)
+  unfolding shownAs isFound phaseTree closed named phaseOf numberOf refusalOf treeFrom
+  by-phase s Walk e n l h w = absurd (w refl)
+  by-phase s Ask e n l h w =
+      let k = plain s Ask l h refl in
+      record { sees = (refl, ap (λ (u : State). keyAt u) k, ap (λ (u : State). whatAt u) k); stands = stands s (stepOf s 1 0) k ∙ ap (λ (q : Phase). closed naming (phaseTree (worldFor R) s q)) h ∙ ap (λ (x : ℕ). closed x (phaseTree (worldFor R) s Ask)) n }
+  by-phase s Offer e n l h w =
+      let k = plain s Offer l h refl in
+      record { sees = (refl, refl, refl); stands = stands s (stepOf s 2 0) k ∙ ap (λ (q : Phase). closed naming (phaseTree (worldFor R) s q)) h ∙ ap (λ (x : ℕ). closed x (phaseTree (worldFor R) s Offer)) n }
+  by-phase s Found zero n l h w =
+      let k = plain s Found l h refl in
+      record { sees = (refl, refl, refl); stands = stands s (stepOf s 3 0) k ∙ ap (λ (q : Phase). closed naming (phaseTree (worldFor R) s q)) h ∙ ap (λ (x : ℕ). closed x (phaseTree (worldFor R) s Found)) n }
+  by-phase s Found (suc e) n l h w =
+      subst (λ (b : Bool). At R (done (refused (suc e))) (cond b (stepOf s 3 0) (stepOf s 4 (suc e)))) (sym (ne-eqb (suc e) 0 (λ q. omega (arith, q))))
+      record { sees = (refl, refl); stands = ap (λ (u : State). closed naming (treeOf (worldFor R) u)) (state-of-step s 4 (suc e) l) }
+  by-phase s (Refused x) e n l h w =
+      let k = plain s (Refused x) l h refl in
+      record { sees = (refl, refl); stands = stands s (stepOf s 4 x) k ∙ ap (λ (q : Phase). closed naming (phaseTree (worldFor R) s q)) h ∙ ap (λ (y : ℕ). closed y (phaseTree (worldFor R) s (Refused x))) n }
+  by-phase s (Spent x) e n l h w =
+      let k = plain s (Spent x) l h refl in
+      record { sees = (refl, refl); stands = stands s (stepOf s 5 x) k ∙ ap (λ (q : Phase). closed naming (phaseTree (worldFor R) s q)) h ∙ ap (λ (y : ℕ). closed y (phaseTree (worldFor R) s (Spent x))) n }
+
+  pub shown-at : (s : State) → s .depth < 7 → (s .phase ≡ Walk → ⊥) → At R (closed naming (treeOf (worldFor R) s)) (shownAs naming s (s .phase))
+  shown-at s l w = by-phase s (s .phase) naming refl l refl w
+
+  -- ---- an answer, the start, and an end entity that cannot be read
+  pub answer-at : (t r : Step) (u s : State) (a : ℕ) → u ≡ stateOf t → r ≡ shownAs naming s (s .phase)
+      → (u .depth < 7 → (u .phase ≡ Walk → ⊥) → Halted (worldFor R) u s (a ∷ []) (give (treeOf (worldFor R) u) a) (effort (worldFor R) u)) → At R (give (treeFrom R t) a) r
+  unfolding treeFrom
+  answer-at t r u s a q e h =
+      let f : (u .depth < 7) × (u .phase ≡ Walk → ⊥) = subst (λ (v : State). (v .depth < 7) × (v .phase ≡ Walk → ⊥)) (sym q) (fair t) in
+      let g = h (f .0) (f .1) in
+      subst (λ (v : Tree). At R v r) (ap (closed naming) (g .same) ∙ closed-give naming (treeOf (worldFor R) u) a ∙ ap (λ (v : State). give (closed naming (treeOf (worldFor R) v)) a) q)
+      (subst (λ (w : Step). At R (closed naming (treeOf (worldFor R) s)) w) (sym e) (shown-at s (g .deep) (g .halts)))
+
+  module _ (B : Budgets) where
+    read-decision : (c : Certificate) → readCertificate (R .end) true ≡ Accepted c → closed naming (searchOf R B) ≡ decision R B
+    unfolding decision onReading
+    read-decision c e = sym (rw e)
+
+    pub begin-at : (c : Certificate) → readCertificate (R .end) true ≡ Accepted c → (s : State) (r : Step) → r ≡ shownAs naming s (s .phase)
+        → (n : ℕ) → n ≡ endOf R → Started (worldFor R) n (B .signatures) (B .extensions) (B .comparisons) s → At R (decision R B) r
+    begin-at c q s r e n m k =
+        let h : Started (worldFor R) (endOf R) (B .signatures) (B .extensions) (B .comparisons) s = subst (λ (j : ℕ). Started (worldFor R) j (B .signatures) (B .extensions) (B .comparisons) s) m k in
+        subst (λ (u : Tree). At R u r) (ap (closed naming) (h .same) ∙ read-decision c q)
+        (subst (λ (q : Step). At R (closed naming (treeOf (worldFor R) s)) q) (sym e) (shown-at s (h .deep) (h .halts)))
+
+    pub unread-at : (e : ℕ) → readCertificate (R .end) true ≡ NoCertificate e → (r : Step) (a b c : ℕ) → r ≡ endedStep e a b c → At R (decision R B) r
+    unfolding decision onReading treeFrom stateOf phaseOf phaseTree closed named
+    unread-at e q r a b c h = rw (q, h) record { sees = (refl, refl); stands = refl }
+
+-- ---- a whole run
+-- the answers given one after the other
+pub take-more : (l : List ℕ) (i : ℕ) → i < length l → take (i + 1) l ≡ take i l ++ (getD l i 0 ∷ [])
+take-more l i h =
+    let e : i + 1 ≡ suc i = omega arith in
+    ap (λ (j : ℕ). take j l) e ∙ by l i h
+  where
+    by : (l : List ℕ) (i : ℕ) → i < length l → take (suc i) l ≡ take i l ++ (getD l i 0 ∷ [])
+    by [] i h = absurd (omega (arith, h))
+    by (x ∷ l) zero h = refl
+    by (x ∷ l) (suc i) h = ap (λ (m : List ℕ). x ∷ m) (by l i (omega (arith, h)))
+
+pub take-all : (l : List ℕ) (i : ℕ) → length l ≤ i → take i l ≡ l
+take-all [] zero h = refl
+take-all [] (suc i) h = refl
+take-all (x ∷ l) zero h = absurd (omega (arith, h))
+take-all (x ∷ l) (suc i) h = ap (λ (m : List ℕ). x ∷ m) (take-all l i (omega (arith, h)))
+
+abbrev start : Request → Budgets → Phase → State
+start R B phase = begun (endOf R) (B .signatures) (B .extensions) (B .comparisons) phase
+
+-- the machine is at s after these answers
+pub record Going (R : Request) (B : Budgets) (said : List ℕ) (s : State) : Type 0 where
+  pub same : treeOf (worldFor R) s ≡ follow (searchOf R B) said
+  pub deep : s .depth < 7
+  pub halts : s .phase ≡ Walk → ⊥
+  pub phase : Phase
+  pub begins : Stands (worldFor R) (start R B phase) (searchOf R B) (suc (endOf R) * suc (B .extensions))
+  pub moves : ℕ
+  pub ran : Ran (worldFor R) (start R B phase) s said moves
+
+module _ (R : Request) (B : Budgets) where
+  pub going : (s : State) (n : ℕ) → n ≡ endOf R → Started (worldFor R) n (B .signatures) (B .extensions) (B .comparisons) s → Going R B [] s
+  unfolding worldOf follow
+  going s n m k =
+      let h : Started (worldFor R) (endOf R) (B .signatures) (B .extensions) (B .comparisons) s = subst (λ (j : ℕ). Started (worldFor R) j (B .signatures) (B .extensions) (B .comparisons) s) m k in
+      record { same = h .same; deep = h .deep; halts = h .halts; phase = h .phase; begins = h .begins; moves = h .moves; ran = h .ran }
+
+  pub goes-on : (said then : List ℕ) (s r : State) (a : ℕ) → then ≡ said ++ (a ∷ []) → Going R B said s
+      → (s .depth < 7 → (s .phase ≡ Walk → ⊥) → Halted (worldFor R) s r (a ∷ []) (give (treeOf (worldFor R) s) a) (effort (worldFor R) s)) → Going R B then r
+  goes-on said then s r a e g h =
+      let k = h (g .deep) (g .halts) in
+      let m = k .ran (start R B (g .phase)) said (g .moves) (g .ran) in
+      subst (λ (l : List ℕ). Going R B l r) (sym e) record {
+        same = k .same ∙ ap (λ (u : Tree). give u a) (g .same) ∙ sym (follow-more (searchOf R B) said a);
+        deep = k .deep;
+        halts = k .halts;
+        phase = g .phase;
+        begins = g .begins;
+        moves = m .0;
+        ran = m .1;
+      }
+
+  pub went : (said all : List ℕ) → said ≡ all → (s : State) (r : Step) (c : Certificate) → readCertificate (R .end) true ≡ Accepted c → Going R B said s
+      → r ≡ shownAs (nameOf (R .end) (R .kind) (R .name)) s (s .phase) → Run R B all r
+  went said all d s r c q g e =
+      subst (λ (l : List ℕ). Run R B l r) d (subst (λ (w : Step). Run R B said w) (sym e) record {
+        at = subst (λ (v : Tree). At R v (shownAs (nameOf (R .end) (R .kind) (R .name)) s (s .phase)))
+            (ap (closed (naming R)) (g .same) ∙ closed-follow (naming R) (searchOf R B) said ∙ ap (λ (v : Tree). follow v said) (read-decision R B c q))
+            (shown-at R s (g .deep) (g .halts));
+        moves = g .moves;
+        made = ran (g .ran);
+        few = omega (arith, g .begins .most, ran-bound (worldFor R) (g .ran));
+      })
+
+  pub not-read : (said : List ℕ) (e : ℕ) → readCertificate (R .end) true ≡ NoCertificate e → (r : Step) (a b c : ℕ) → r ≡ endedStep e a b c → Run R B said r
+  unfolding decision onReading
+  not-read said e q r a b c h = record { at = subst (λ (v : Tree). At R v r) (rw q (sym (follow-done (refused e) said))) (unread-at R B e q r a b c h); moves = 0; made = unread e q; few = omega arith }
+
+-- ---- what a question is about
+abbrev numbersOf : State → Numbers
+numbersOf s = record { key = keyAt s; certificate = whatAt s }
+
+module _ (key what : ℕ) (q : Question) (signed algorithm signature own bits : Span) (e : ℕ) (r : Asked) where
+  pub asked-whole : (p : Key) → q ≡ Of signed algorithm signature p → p ≡ Parts own bits → r ≡ filledOf key what signed algorithm signature own bits 0 0 → r ≡ askedOf key what q
+  unfolding askedOf
+  asked-whole p a b h = h ∙ sym (ap (askedOf key what) (a ∙ ap (Of signed algorithm signature) b))
+
+  pub asked-unopened : (p : Key) → q ≡ Of signed algorithm signature p → p ≡ NoKey e → r ≡ filledOf key what signed algorithm signature nowhere nowhere 0 e → r ≡ askedOf key what q
+  unfolding askedOf
+  asked-unopened p a b h = h ∙ sym (ap (askedOf key what) (a ∙ ap (Of signed algorithm signature) b))
+
+pub question-told : (I : List (List ℕ)) (E : List ℕ) (K : List (List ℕ)) (n : ℕ) (t : Step) (u : State) (q : Numbers) (w : Question) (r : Asked)
+    → u ≡ stateOf t → q ≡ record { key = keyAt u; certificate = whatAt u } → w ≡ questionOf I E K n (q .key) (q .certificate) → r ≡ askedOf (q .key) (q .certificate) w
+    → r ≡ askedOf (keyAt (stateOf t)) (whatAt (stateOf t)) (questionOf I E K n (keyAt (stateOf t)) (whatAt (stateOf t)))
+question-told I E K n t u q w r a b c d =
+    d ∙ ap (askedOf (q .key) (q .certificate)) c
+    ∙ ap (λ (m : Numbers). askedOf (m .key) (m .certificate) (questionOf I E K n (m .key) (m .certificate))) (b ∙ ap numbersOf a)

@@ -1,0 +1,20 @@
+-- `judge::pathjudge_answer` meets its contract. Assumes nothing.
+use Rattle.judge.proofs.Laws.{answer-at}
+use Rattle.judge.proofs.pathjudge_answer.Statement.{statement}
+use Rattle.judge.proofs.pathjudge_answer.Tie as tie
+
+state-of-requires : tie.Need-state-of-requires
+state-of-requires c κs = tt
+
+answer-requires : tie.Need-answer-requires
+answer-requires c κs = tt
+
+shown-requires : tie.Need-shown-requires
+shown-requires c κs = tt
+
+returns : tie.Need-returns
+returns c = answer-at _ _ _ _ _ _ (c .before .before .state-of .ensures) (c .shown .ensures) (c .before .answer .ensures)
+
+pub pathjudge-answer-spec : {M : Type 1} → statement M
+pathjudge-answer-spec =
+    tie.close (tie.spec state-of-requires answer-requires shown-requires returns)

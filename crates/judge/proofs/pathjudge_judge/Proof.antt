@@ -1,0 +1,88 @@
+-- `judge::pathjudge_judge` meets its contract. Assumes nothing.
+use Prim.Native.Nat.{_-_, _≤_}
+use mathlib.Core.Path.{sym, _∙_}
+use mathlib.Core.List.{map}
+use lib.ListN.{length, take}
+use denote.Ref.{now}
+use native.Mathlib.Omega.{arith}
+use Rattle.judge.specs.Steps.{requestOf, budgetsOf}
+use Rattle.judge.proofs.Laws.{counted, take-more, take-all, Going, going, goes-on, went, not-read}
+use borrow.Author.Needs.{needs}
+use Rattle.judge.proofs.pathjudge_judge.Statement.{statement}
+use Rattle.judge.proofs.pathjudge_judge.Tie as tie
+
+abbrev Inv-loop : tie.InvT-loop
+Inv-loop issuers end subjects keys constraints bound distrusted time purpose demanded kind name signatures extensions comparisons answers s₀ i₀ s i =
+    (i ≤ length answers) × Going (requestOf (map now issuers) end (map now subjects) (map now keys) (map now constraints) bound (map now distrusted) time purpose demanded kind name) (budgetsOf signatures extensions comparisons) (take i answers) s
+
+abbrev μ-loop : tie.MeasureT-loop
+μ-loop issuers end subjects keys constraints bound distrusted time purpose demanded kind name signatures extensions comparisons answers s₀ i₀ s i = length answers - i
+
+read-requires : tie.Need-read-requires Inv-loop μ-loop
+read-requires c κs = tt
+
+enum-told : tie.Need-enum-told Inv-loop μ-loop
+enum-told c = c .match .keys1
+
+start-requires : tie.Need-start-requires Inv-loop μ-loop
+start-requires c κs = tt
+
+loop-holds : tie.Need-loop-holds Inv-loop μ-loop
+loop-holds c = (omega arith, going _ _ _ _ (counted (c .before .before .before .before .before .before .before .before .before .args .subjects .now) (c .before .before .before .before .before .before .before .before .before .args .issuers .now)) (c .start .ensures))
+
+mul-answer : tie.Need-mul-answer Inv-loop μ-loop
+mul-answer c = search (needs, c .before .before .before .before .before .before .before .before .before .before .before .good .1 .1 .1 .1 .1 .1 .1 .1 .1 .1 .1 .1 .1 .1 .1 .0)
+
+shared-slice-read-answer : tie.Need-shared-slice-read-answer Inv-loop μ-loop
+shared-slice-read-answer c = search (needs, c .before .before .before .before .before .before .before .before .before .before .before .before .good .1 .1 .1 .1 .1 .1 .1 .1 .1 .1 .1 .1 .1 .1 .1 .0)
+
+answer-requires : tie.Need-answer-requires Inv-loop μ-loop
+answer-requires c κs = tt
+
+add-i : tie.Need-add-i Inv-loop μ-loop
+add-i c = omega (arith, c .before .before .before .before .before .before .before .before .before .before .before .before .before .good .1 .1 .1 .1 .1 .1 .1 .1 .1 .1 .1 .1 .1 .1 .1 .0)
+
+loop-less : tie.Need-loop-less Inv-loop μ-loop
+loop-less c = omega arith
+
+loop-again : tie.Need-loop-again Inv-loop μ-loop
+loop-again c =
+    (omega arith, goes-on _ _ _ _ _ _ _ (take-more (c .before .before .before .before .before .before .before .before .before .before .before .before .before .args .answers .now) (c .before .before .before .loop .i) (omega arith)) (c .before .before .before .loop .inv .1) (c .answer .ensures))
+
+shown-requires : tie.Need-shown-requires Inv-loop μ-loop
+shown-requires c κs = tt
+
+enum-known-e : tie.Need-enum-known-e Inv-loop μ-loop
+enum-known-e c = c .match .keys2
+
+ended-requires : tie.Need-ended-requires Inv-loop μ-loop
+ended-requires c κs = tt
+
+returns : tie.Need-returns Inv-loop μ-loop
+returns c =
+    went _ _ _ _ (take-all (c .before .before .before .before .before .before .before .before .before .before .before .before .args .answers .now) (c .before .before .loop .i) (omega arith)) _ _ _ (sym (c .before .before .before .before .before .before .read .ensures) ∙ c .before .before .before .before .enum-told .given .1) (c .before .before .loop .inv .1) (c .shown .ensures)
+
+returns-2 : tie.Need-returns-2 Inv-loop μ-loop
+returns-2 c = not-read _ _ _ _ (sym (c .before .before .before .before .read .ensures) ∙ c .before .before .e .given .1) _ _ _ _ (c .ended .ensures)
+
+pub pathjudge-judge-spec : {M : Type 1} → statement M
+pathjudge-judge-spec =
+    tie.close
+    (tie.spec
+    Inv-loop
+    μ-loop
+    read-requires
+    enum-told
+    start-requires
+    loop-holds
+    mul-answer
+    shared-slice-read-answer
+    answer-requires
+    add-i
+    loop-less
+    loop-again
+    shown-requires
+    enum-known-e
+    ended-requires
+    returns
+    returns-2)

@@ -1,4 +1,4 @@
-//! Times decisions. Usage: cargo run --release --offline -p bench -- [ORACLE_DIR]
+//! Times decisions. Usage: `cargo run --release --offline -p bench -- [ORACLE_DIR]`
 //! With the folder in which oracle/make put the oracle, rustls-webpki is timed in the same run, and docs/PERFORMANCE.md and docs/performance.svg
 //! are written; without it, Pathjudge is timed alone, and nothing is written.
 mod measure;

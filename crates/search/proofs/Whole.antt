@@ -6,12 +6,12 @@ use native.Mathlib.Omega.{arith}
 use Rattle.refusal.specs.Refusals.{unknownIssuer}
 use Rattle.refusal.specs.Model.{worseOf}
 use Rattle.search.specs.declared.State.{State}
-use Rattle.search.specs.declared.Phase.the-variants.{Walk, Found, Refused, Spent}
-use Rattle.dialogue.specs.Model.{World, Event, Outcome, Tree, done, accepted, refused, spent, events, run, search}
+use Rattle.search.specs.declared.Phase.the-variants.{Walk, Refused}
+use Rattle.dialogue.specs.Model.{World, Event, Outcome, Tree, done, refused, events, run, search}
 use Rattle.dialogue.specs.Dialogue.{give, follow, talk}
 use Rattle.dialogue.specs.Work.{paid}
 use Rattle.dialogue.specs.Decided.{Decided}
-use Rattle.search.specs.Machine.{left, here, phaseTree, treeOf, phaseEffort, effort, Stands, Heard, Halted, Started, Ran, begin, move, reply, begun}
+use Rattle.search.specs.Machine.{left, phaseTree, treeOf, phaseEffort, effort, Stands, Heard, Halted, Started, Ran, begin, move, reply, begun}
 use Rattle.dialogue.proofs.Answers.{followed, follow-more}
 use Rattle.search.proofs.Levels.{events-start, events-refused}
 use Rattle.dialogue.proofs.Work.{all-events}
@@ -97,19 +97,6 @@ module _ (W : World) where
         }
 
   -- ---- and the end
-  module _ (r : State) where
-    pub found-done : r .phase ≡ Found → treeOf W r ≡ done (accepted (r .anchor) (here r))
-    unfolding phaseTree
-    found-done h = ap (phaseTree W r) h
-
-    pub refused-done : (e : ℕ) → r .phase ≡ Refused e → treeOf W r ≡ done (refused e)
-    unfolding phaseTree
-    refused-done e h = ap (phaseTree W r) h
-
-    pub spent-done : (e : ℕ) → r .phase ≡ Spent e → treeOf W r ≡ done (spent e)
-    unfolding phaseTree
-    spent-done e h = ap (phaseTree W r) h
-
   module _ (end s b n : ℕ) (s₀ r : State) (said : List ℕ) (moves : ℕ) (start : Stands W s₀ (search W end s b n) (suc (W .candidates) * suc b)) (ran : Ran W s₀ r said moves) where
     pub few-moves : moves ≤ suc (W .candidates) * suc b
     few-moves = omega (arith, start .most, ran-bound ran)

@@ -1,8 +1,14 @@
 /* The certificate path decision, for C: what libjudge.a exports, on x86-64.
  *
  * A search is a dialogue. `pathjudge_begin` gives the first step; a step is a question, an offer or an end (`phase`), and `pathjudge_answer`
- * gives the step after it. Nothing is allocated, kept or shared: the step is all there is, and what a request lends has to be the same in every
- * call of one search. Any step is safe to hand over, also one that no search has, and so are lists whose lengths do not go together.
+ * gives the step after it. Nothing is allocated, kept or shared: the step and a table of rows are all there is, and what a request lends has to
+ * be the same in every call of one search. Any step and any table is safe to hand over, also one that no search has, and so are lists whose
+ * lengths do not go together.
+ *
+ * The table is room for what is read of each certificate, so that it is read once: a row for each intermediate, and one more for the end entity.
+ * `pathjudge_begin` and `pathjudge_judge` fill it, whatever was in it; `pathjudge_answer` and `pathjudge_question` take it as `pathjudge_begin` left
+ * it. It may have fewer rows, or none: a certificate without a row is read again each time it is looked at, and the answers are the same. It must
+ * share no memory with anything else that is lent.
  *
  * A slice is a pointer and a number of elements, and a list of slices one of `pathjudge_bytes`. Nothing is read through the pointer of an empty
  * one, but it must not be NULL. Places are numbers of bytes from the start of the slice that they are about; an end is the first that is not in.
@@ -67,6 +73,11 @@ typedef struct {
     size_t end;
 } pathjudge_place;
 
+/* What was read of one certificate. */
+typedef struct {
+    size_t numbers[37];
+} pathjudge_row;
+
 /* A search between two calls. Anchors, intermediates and the end entity are numbered in this order, in one row. */
 typedef struct {
     size_t path[PATHJUDGE_MOST_CERTIFICATES]; /* the end entity, and `depth` intermediates from there up */
@@ -107,6 +118,7 @@ typedef struct {
 PATHJUDGE_ASSERT(sizeof(size_t) == 8);
 PATHJUDGE_ASSERT(sizeof(pathjudge_bytes) == 16);
 PATHJUDGE_ASSERT(offsetof(pathjudge_bytes, length) == 8);
+PATHJUDGE_ASSERT(sizeof(pathjudge_row) == 296);
 PATHJUDGE_ASSERT(sizeof(pathjudge_step) == 168);
 PATHJUDGE_ASSERT(offsetof(pathjudge_step, depth) == 112);
 PATHJUDGE_ASSERT(offsetof(pathjudge_step, signatures) == 136);
@@ -136,18 +148,20 @@ PATHJUDGE_ASSERT(offsetof(pathjudge_trusted, bound) == 50);
         const uint8_t *purpose, size_t purpose_length, uint8_t demanded, uint8_t kind, const uint8_t *name, size_t name_length
 
 /* The first step, with so much of the three budgets. */
-pathjudge_step pathjudge_begin(PATHJUDGE_LENT, uint64_t signatures, uint64_t extensions, uint64_t comparisons);
+pathjudge_step pathjudge_begin(PATHJUDGE_LENT, uint64_t signatures, uint64_t extensions, uint64_t comparisons, pathjudge_row *table,
+                               size_t table_length);
 
 /* The step after an answer. An end stays what it is. */
-pathjudge_step pathjudge_answer(PATHJUDGE_LENT, pathjudge_step step, uint16_t answer);
+pathjudge_step pathjudge_answer(PATHJUDGE_LENT, const pathjudge_row *table, size_t table_length, pathjudge_step step, uint16_t answer);
 
 /* The step that answers, one after the other, lead to. */
-pathjudge_step pathjudge_judge(PATHJUDGE_LENT, uint64_t signatures, uint64_t extensions, uint64_t comparisons, const uint16_t *answers,
-                               size_t answers_length);
+pathjudge_step pathjudge_judge(PATHJUDGE_LENT, uint64_t signatures, uint64_t extensions, uint64_t comparisons, pathjudge_row *table,
+                               size_t table_length, const uint16_t *answers, size_t answers_length);
 
-/* What the question of a step is about. `anchors`: how many there are. */
+/* What the question of a step is about. `anchors`: how many there are, the `subjects_length` of the request. */
 pathjudge_asked pathjudge_question(const pathjudge_bytes *issuers, size_t issuers_length, const uint8_t *end, size_t end_length,
-                                   const pathjudge_bytes *keys, size_t keys_length, size_t anchors, pathjudge_step step);
+                                   const pathjudge_bytes *keys, size_t keys_length, size_t anchors, const pathjudge_row *table,
+                                   size_t table_length, pathjudge_step step);
 
 /* 0, or why the bytes are no certificate that can stand in a path. */
 uint16_t pathjudge_read(const uint8_t *certificate, size_t length);

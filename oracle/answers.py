@@ -4,12 +4,12 @@ import itertools, subprocess, tempfile
 UNREADABLE = 'anchorcert 3000'
 
 
-def asked(program, texts):
+def asked(program, texts, *arguments):
     """The program's answers, a line a case."""
     with tempfile.NamedTemporaryFile('w', suffix='.txt') as f:
         f.writelines(texts)
         f.flush()
-        out = subprocess.run([program, f.name], stdout=subprocess.PIPE, text=True, check=True).stdout.splitlines()
+        out = subprocess.run([program, f.name, *arguments], stdout=subprocess.PIPE, text=True, check=True).stdout.splitlines()
     if len(out) != len(texts):
         raise SystemExit('%s gave %d answers to %d cases' % (program, len(out), len(texts)))
     return out

@@ -15,7 +15,7 @@ use Rattle.cert.specs.declared.Reading.{Reading}
 use Rattle.cert.specs.declared.Reading.the-variants.{Accepted, Refused}
 use Rattle.cert.specs.declared.Anchored.{Anchored}
 use Rattle.cert.specs.declared.Anchored.the-variants.{Anchor, Refused as NoAnchor}
-use Rattle.cert.specs.declared.extensions.Slot.{Slot}
+use Rattle.extensions.specs.declared.Slot.{Slot}
 use Rattle.cert.specs.Model.{readCertificate, anchorOf, readAnchor}
 use Rattle.cert.specs.Rfc5280.{Skeleton, Readable, certificate}
 use Rattle.cert.specs.Layout.{places}

@@ -1,19 +1,18 @@
 -- COMPLETE: the encoding of every skeleton within the rules is read, with the places of its layout. Assumes nothing.
-use Prim.Native.Nat.{ℕ, _+_, _-_, _≤_, _<_}
+use Prim.Native.Nat.{ℕ, _-_, _≤_, _<_}
 use mathlib.Core.Path.{_≡_, refl, sym, ap, _∙_}
 use mathlib.Core.List.{List, [], _∷_, _++_}
 use mathlib.Core.Bool.{Bool}
 use lib.ListN.{length}
 use native.Mathlib.Omega.{arith}
-use borrow.Author.Tests.{eq-eqb}
-use Rattle.refusal.specs.Refusals.{badDer, trailingSignedData, trailingCertificateExtensions, trailingExtension}
+use Rattle.refusal.specs.Refusals.{badDer, trailingSignedData}
 use Rattle.der.specs.declared.Span.{Span}
 use Rattle.der.specs.Places.{part}
 use Rattle.der.specs.X690.{encoding}
 use Rattle.der.specs.Model.{LIMIT}
 use Rattle.der.proofs.Parts.{part-length}
 use Rattle.der.proofs.Equal.{same-equal}
-use Rattle.der.proofs.Loop.{start}
+use Rattle.extensions.proofs.Complete.{extensions-found}
 use Rattle.cert.specs.declared.Reading.the-variants.{Accepted}
 use Rattle.cert.specs.declared.Envelope.{Envelope}
 use Rattle.cert.specs.declared.Opened.the-variants.{Parts}
@@ -21,47 +20,16 @@ use Rattle.cert.specs.declared.Beginning.{Beginning}
 use Rattle.cert.specs.declared.Begun.the-variants.{With}
 use Rattle.cert.specs.declared.Fields.{Fields}
 use Rattle.cert.specs.declared.Found.the-variants.{All as AllFields}
-use Rattle.cert.specs.declared.extensions.Kept.the-variants.{All}
-use Rattle.cert.specs.Model.{span, opened, begun, fieldsAt, taken, goOn, allKept, noneKnown, gathered, extensionsAt, readCertificate}
-use Rattle.cert.specs.Rfc5280.{Skeleton, Extension, Extensions, missing, present, listed, Each, KnownNumber, occurs, Readable, integer, bitString, sequence, explicit, version, extensionList, extensions, tbsContent, tbsCertificate, certificateContent, certificate}
-use Rattle.cert.specs.Layout.{placeOf, bitsOf, slotFor, slots, knownAt, places}
-use Rattle.cert.proofs.Cases.{parts-case, opened-case, begun-case, fields-case, extensions-case, read-case}
-use Rattle.cert.proofs.Value.{part-whole, find-last, find-in, find-last-in}
+use Rattle.extensions.specs.Model.{span}
+use Rattle.cert.specs.Model.{opened, begun, fieldsAt, readCertificate}
+use Rattle.extensions.specs.Rfc5280.{sequence, extensions}
+use Rattle.cert.specs.Rfc5280.{Skeleton, Readable, integer, bitString, version, tbsContent, tbsCertificate, certificateContent, certificate}
+use Rattle.extensions.specs.Layout.{placeOf, knownAt}
+use Rattle.cert.specs.Layout.{bitsOf, places}
+use Rattle.cert.proofs.Cases.{parts-case, opened-case, begun-case, fields-case, read-case}
+use Rattle.extensions.proofs.Value.{part-whole, find-last, find-in}
 use Rattle.cert.proofs.Small.{bits-short, bits-found, version-found}
-use Rattle.cert.proofs.Slots.{used-none, after-first}
-use Rattle.cert.proofs.ExtensionsComplete.{list-found}
 use Rattle.cert.proofs.Sound.{placed}
-
--- ---- extensions
-extensions-missing : (s : List ℕ) (from to : ℕ) (strict : Bool) → from ≡ to → extensionsAt s from to strict ≡ All (slots 0 [])
-unfolding extensionsAt noneKnown slots slotFor
-extensions-missing s from to strict h = rw (eq-eqb from to h)
-
-list-whole : (s : List ℕ) (from to : ℕ) (strict : Bool) (xs : List Extension) → from ≤ to → to ≤ length s → to - from < LIMIT → part s from to ≡ extensionList xs → Each strict xs
-    → ((n : ℕ) → KnownNumber n → occurs n xs ≤ 1) → gathered s from to strict ≡ All (slots from xs)
-unfolding gathered
-list-whole s from to strict xs h l small e each once =
-    let r = list-found s to strict l xs from noneKnown h small e each (λ n m. omega (arith, once n m, used-none n m)) (start to allKept (λ at x. goOn (taken s at to x strict)) from noneKnown) in
-    r .found ∙ ap All (after-first (r .now) from xs (r .set))
-
-pub extensions-found : (s : List ℕ) (from to : ℕ) (strict : Bool) (es : Extensions) → from ≤ to → to ≤ length s → to - from < LIMIT → part s from to ≡ extensions es → Each strict (listed es)
-    → ((n : ℕ) → KnownNumber n → occurs n (listed es) ≤ 1) → extensionsAt s from to strict ≡ All (knownAt from es)
-unfolding extensions listed knownAt explicit sequence
-extensions-found s from to strict missing h l small e each once =
-    let n : to - from ≡ 0 = sym (part-length s from to l) ∙ ap length e in
-    extensions-missing s from to strict (omega arith)
-extensions-found s from to strict (present xs) h l small e each once =
-    let f = find-last-in s from to 163 (encoding 48 (extensionList xs)) refl small h l e in
-    let p = placeOf from (encoding 48 (extensionList xs)) in
-    let i = f .0 .inside in
-    let a = f .0 .after in
-    let o = f .0 .ordered in
-    let g = find-last-in s (p .start) (p .end) 48 (extensionList xs) refl (omega arith) (f .0 .ordered) (omega arith) (f .0 .content) in
-    let q = placeOf (p .start) (extensionList xs) in
-    let j = g .0 .inside in
-    let b = g .0 .after in
-    let r = list-whole s (q .start) (q .end) strict xs (g .0 .ordered) (omega arith) (omega arith) (g .0 .content) each once in
-    extensions-case s from to strict (λ n. omega arith) (f .0 .found trailingCertificateExtensions) (g .0 .found trailingExtension) r (g .1) (f .1)
 
 -- ---- issuer, validity, subject, key
 pub fields-found : (s : List ℕ) (from to : ℕ) (issuer validity subject key rest : List ℕ) → from ≤ to → to ≤ length s → to - from < LIMIT

@@ -9,8 +9,9 @@ use Rattle.der.specs.Model.{LIMIT}
 use Rattle.cert.specs.declared.Certificate.{Certificate}
 use Rattle.cert.specs.declared.Reading.the-variants.{Accepted}
 use Rattle.cert.specs.Model.{readCertificate}
-use Rattle.cert.specs.Rfc5280.{Skeleton, unwritten, written, isCritical, missing, present, certificateContent, certificate}
-use Rattle.cert.specs.Layout.{slotFor, slots, knownAt}
+use Rattle.extensions.specs.Rfc5280.{unwritten, written, isCritical, missing, present}
+use Rattle.cert.specs.Rfc5280.{Skeleton, certificateContent, certificate}
+use Rattle.extensions.specs.Layout.{slotFor, slots, knownAt}
 use Rattle.cert.proofs.Sound.{sound}
 use Rattle.cert.proofs.Unique.{unique}
 

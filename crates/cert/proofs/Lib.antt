@@ -1,14 +1,8 @@
 pub mod Cases
 pub mod Inversion
-pub mod Steps
-pub mod Value
 pub mod Small
-pub mod Numbers
-pub mod Slots
-pub mod ExtensionsSound
 pub mod Sound
 pub mod Laws
-pub mod ExtensionsComplete
 pub mod Complete
 pub mod Unique
 pub mod Anchors

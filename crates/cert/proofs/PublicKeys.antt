@@ -18,13 +18,16 @@ use Rattle.der.proofs.Parts.{part-length}
 use Rattle.values.proofs.SmallValues.{content-inv}
 use Rattle.cert.specs.declared.key.Key.the-variants.{Parts as KeyParts}
 use Rattle.cert.specs.Model.{keyParts}
-use Rattle.cert.specs.Rfc5280.{sequence, bitString, keyContent}
-use Rattle.cert.specs.Layout.{placeOf, bitsOf}
+use Rattle.extensions.specs.Rfc5280.{sequence}
+use Rattle.cert.specs.Rfc5280.{bitString, keyContent}
+use Rattle.extensions.specs.Layout.{placeOf}
+use Rattle.cert.specs.Layout.{bitsOf}
 use Rattle.cert.proofs.Cases.{key-case}
-use Rattle.cert.proofs.Inversion.{key-inv, chosen}
-use Rattle.cert.proofs.Value.{here, here-split, find}
+use Rattle.extensions.proofs.Inversion.{chosen}
+use Rattle.cert.proofs.Inversion.{key-inv}
+use Rattle.extensions.proofs.Value.{here, here-split, find}
 use Rattle.cert.proofs.Small.{bits-here, bits-found}
-use Rattle.cert.proofs.Slots.{Within}
+use Rattle.extensions.proofs.Slots.{Within}
 
 pub record KeyHere (s : List ℕ) (from to : ℕ) (p q : Span) : Type 0 where
   pub bytes : part s from to ≡ keyContent (part s (p .start) (p .end)) (part s (q .start) (q .end))

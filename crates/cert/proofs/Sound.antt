@@ -1,34 +1,34 @@
 -- SOUND: what is read is the encoding of the skeleton that the places cut out. Assumes nothing.
-use Prim.Native.Nat.{ℕ, _+_, _-_, _≤_, _<_}
+use Prim.Native.Nat.{ℕ, _<_}
 use mathlib.Core.Path.{_≡_, refl, sym, ap, _∙_}
 use mathlib.Core.List.{List, [], _∷_, _++_}
 use mathlib.Core.Bool.{Bool}
-use mathlib.Core.Logic.{⊎-elim}
 use lib.ListN.{length}
 use native.Mathlib.Omega.{arith}
-use Rattle.refusal.specs.Refusals.{badDer, trailingSignedData, trailingCertificateExtensions, trailingExtension}
+use Rattle.refusal.specs.Refusals.{badDer, trailingSignedData}
 use Rattle.der.specs.declared.Span.{Span}
 use Rattle.der.specs.Places.{Bytes, part}
 use Rattle.der.specs.X690.{encoding}
 use Rattle.der.specs.Model.{LIMIT}
-use Rattle.der.proofs.Parts.{part-length, part-split, part-none}
+use Rattle.der.proofs.Parts.{part-length, part-split}
 use Rattle.der.proofs.Equal.{same-yes}
-use Rattle.der.proofs.Loop.{start}
+use Rattle.extensions.proofs.Sound.{ExtensionsHere, extensions-here}
 use Rattle.cert.specs.declared.Certificate.{Certificate}
 use Rattle.cert.specs.declared.Reading.the-variants.{Accepted}
 use Rattle.cert.specs.declared.Envelope.{Envelope}
 use Rattle.cert.specs.declared.Beginning.{Beginning}
 use Rattle.cert.specs.declared.Fields.{Fields}
-use Rattle.cert.specs.declared.extensions.Known.{Known}
-use Rattle.cert.specs.declared.extensions.Kept.the-variants.{All}
-use Rattle.cert.specs.Model.{span, taken, goOn, allKept, noneKnown, gathered, extensionsAt, readCertificate}
-use Rattle.cert.specs.Rfc5280.{Skeleton, Extensions, missing, present, listed, Each, none, KnownNumber, occurs, Readable, integer, bitString, sequence, explicit, version, extensionList, extensions, tbsContent, tbsCertificate, certificateContent, certificate}
-use Rattle.cert.specs.Layout.{placeOf, bitsOf, slotFor, slots, knownAt, places}
-use Rattle.cert.proofs.Inversion.{OpenedAs, BegunAt, FieldsAt, ListAt, extensions-inv, read-inv}
-use Rattle.cert.proofs.Value.{part-whole, here, here-split}
+use Rattle.extensions.specs.declared.Known.{Known}
+use Rattle.extensions.specs.Model.{span}
+use Rattle.cert.specs.Model.{readCertificate}
+use Rattle.extensions.specs.Rfc5280.{sequence}
+use Rattle.cert.specs.Rfc5280.{Skeleton, Readable, integer, bitString, version, tbsContent, tbsCertificate, certificateContent, certificate}
+use Rattle.extensions.specs.Layout.{placeOf, slots, knownAt}
+use Rattle.cert.specs.Layout.{bitsOf, places}
+use Rattle.cert.proofs.Inversion.{OpenedAs, BegunAt, FieldsAt, read-inv}
+use Rattle.extensions.proofs.Value.{part-whole, here, here-split}
 use Rattle.cert.proofs.Small.{bits-here, version-here}
-use Rattle.cert.proofs.Slots.{Within, KnownWithin, known-within, none-within, after-first, used-none}
-use Rattle.cert.proofs.ExtensionsSound.{list-here}
+use Rattle.extensions.proofs.Slots.{Within, KnownWithin}
 
 -- ---- the outer SEQUENCE
 pub record EnvelopeHere (s : List ℕ) (v : Envelope) (tbs algorithm octets : List ℕ) : Type 0 where
@@ -145,52 +145,6 @@ fields-here s b from to f o =
       subject-within = record { ordered = u .ordered; inside = omega (arith, u .inside, u .within) };
       key-within = record { ordered = k .ordered; inside = omega (arith, k .inside, k .within) };
     }
-
--- ---- extensions
-pub record ExtensionsHere (s : List ℕ) (from to : ℕ) (strict : Bool) (k : Known) : Type 0 where
-  pub es : Extensions
-  pub bytes : part s from to ≡ extensions es
-  pub known-at : k ≡ knownAt from es
-  pub each : Each strict (listed es)
-  pub once : (n : ℕ) → KnownNumber n → occurs n (listed es) ≤ 1
-  pub sits : KnownWithin s k
-
-no-extensions : (s : List ℕ) (from : ℕ) (strict : Bool) → ExtensionsHere s from from strict noneKnown
-unfolding extensions knownAt listed occurs noneKnown slots slotFor
-no-extensions s from strict =
-    record {
-      es = missing;
-      bytes = part-none s from;
-      known-at = refl;
-      each = none;
-      once = λ n m. omega arith;
-      sits = known-within s noneKnown (none-within s);
-    }
-
-some-extensions : (s : List ℕ) → Bytes s → (from to : ℕ) (strict : Bool) (k : Known) → ListAt s from to strict k → ExtensionsHere s from to strict k
-unfolding extensions knownAt listed explicit sequence gathered
-some-extensions s b from to strict k l =
-    let f = here s b from to 163 trailingCertificateExtensions (l .field) (l .outer) in
-    let g = here s b (l .field .start) (l .field .end) 48 trailingExtension (l .list) (l .inner) in
-    let h = list-here s b (l .list .end) strict (l .list .end - l .list .start) (l .list .start) noneKnown k (omega arith) (g .ordered) (l .all) (start (l .list .end) allKept (λ at x. goOn (taken s at (l .list .end) x strict)) (l .list .start) noneKnown) in
-    let inner : part s (l .field .start) (l .field .end) ≡ encoding 48 (extensionList (h .xs)) = sym (ap (λ (n : ℕ). part s (l .field .start) n) (l .list-end)) ∙ g .bytes ∙ ap (encoding 48) (h .bytes) in
-    let field : l .field ≡ placeOf from (encoding 48 (extensionList (h .xs))) = f .place ∙ ap (placeOf from) inner in
-    let list : l .list ≡ placeOf (l .field .start) (extensionList (h .xs)) = g .place ∙ ap (placeOf (l .field .start)) (h .bytes) in
-    record {
-      es = present (h .xs);
-      bytes = sym (ap (λ (n : ℕ). part s from n) (l .field-end)) ∙ f .bytes ∙ ap (encoding 163) inner;
-      known-at = after-first k (l .list .start) (h .xs) (h .set) ∙ ap (λ (p : Span). slots (p .start) (h .xs)) list ∙ ap (λ (p : Span). slots (placeOf (p .start) (extensionList (h .xs)) .start) (h .xs)) field;
-      each = h .each;
-      once = λ n m. omega (arith, h .room n m, used-none n m);
-      sits = known-within s k (h .sits (none-within s));
-    }
-
-extensions-here : (s : List ℕ) → Bytes s → (from to : ℕ) (strict : Bool) (k : Known) → extensionsAt s from to strict ≡ All k → ExtensionsHere s from to strict k
-extensions-here s b from to strict k e =
-    ⊎-elim
-    (λ h. rw (← h .0, h .1) (no-extensions s from strict))
-    (λ l. some-extensions s b from to strict k l)
-    (extensions-inv s from to strict k e)
 
 -- ---- the whole
 -- the places of a skeleton, each from the one before it

@@ -8,7 +8,6 @@ use values::small::Small;
 ghost use mathlib.Core.Path.{_≡_};
 ghost use Rattle.cert.specs.Model.{partsIn, opened, versionAt, begun, fieldsAt, readCertificate, readAnchor};
 
-pub mod extensions;
 pub mod key;
 
 // The contents of a certificate's fields, and the signed bytes with their header.

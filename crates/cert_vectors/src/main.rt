@@ -7,11 +7,11 @@
 //   k  a key: its algorithm and its bits
 use cert::Anchored;
 use cert::Reading;
-use cert::extensions::Known;
-use cert::extensions::Slot;
 use cert::key;
 use cert::key::Key;
 use der::Span;
+use extensions::Known;
+use extensions::Slot;
 
 fn put(text: &[u8]) {
     io::write_all(1, text);

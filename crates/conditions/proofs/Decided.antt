@@ -15,9 +15,9 @@ use Rattle.cert.proofs.Refusals.{ReadingFair, reading-not, read-fair}
 use Rattle.constraints.specs.Rfc5280Names.{Others}
 use Rattle.constraints.proofs.NeverWeaker.{never-weaker}
 use Rattle.path.specs.declared.candidate.Verdict.the-variants.{Anchor}
-use Rattle.path.proofs.Skeletons.{certificate-reads}
+use Rattle.checks.proofs.Skeletons.{certificate-reads}
 use Rattle.path.proofs.Verdicts.{anchor-sound}
-use Rattle.path.proofs.Questions.{reply-sound, reply-complete}
+use Rattle.asked.proofs.Questions.{reply-sound, reply-complete}
 use Rattle.dialogue.specs.Model.{Path, signatures, Outcome, accepted, refused, spent, done}
 use Rattle.dialogue.specs.Dialogue.{Turn, answer, word, Leads, asked, follow, talk, Oracle, Veto, play, turnsOf, Agrees}
 use Rattle.dialogue.specs.Account.{Cleared, here, by-answer, Closing}
@@ -26,8 +26,8 @@ use Rattle.dialogue.specs.Decided.{Decided as SearchDecided}
 use Rattle.dialogue.proofs.Answers.{leads, agrees, followed}
 use Rattle.dialogue.proofs.Sound.{weaker}
 use Rattle.dialogue.proofs.Decided.{decided as search-decided}
-use Rattle.search.specs.World.{meaningOf, namesOf, worldOf}
-use Rattle.search.proofs.Lent.{only-yes}
+use Rattle.machine.specs.World.{meaningOf, namesOf, worldOf}
+use Rattle.machine.proofs.Lent.{only-yes}
 use Rattle.conditions.specs.Request.{Request, Budgets}
 use Rattle.conditions.specs.Model.{worldFor, endOf, searchOf, decision}
 use Rattle.conditions.specs.Conditions.{Lends, bytesOf, Numbers, Named, Conditions}
@@ -106,7 +106,7 @@ module _ (R : Request) (lent : Lends R) where
     unfolding worldOf
     done-with q l =
         let d = looked q l in
-        searched q l (d .account) (d .extensions) (d .comparisons) (d .moves) (d .tries (length (R .subjects)) anchors-first) (d .reads (length (R .subjects)) anchors-first)
+        searched q l (d .account) (d .extensions) (d .comparisons) (d .moves) (d .tries (length (R .subjects)) anchors-first) (d .lookups (length (R .subjects)) anchors-first) (λ l. d .looks l (length (R .distrusted)) (length (R .subjects)) anchors-first)
 
     module _ (r : Outcome) (h : Leads (decision R B) turns r) where
       yes : (k : ℕ) (p : Path) → r ≡ accepted k p → Conditions R (GivenYes turns) (GivenContent turns) k p

@@ -6,7 +6,7 @@ use lib.Dec.{ltb}
 use lib.ListN.{length, getD}
 use Rattle.der.specs.Places.{Bytes}
 use Rattle.constraints.specs.Conform.{EachBytes}
-use Rattle.path.specs.Lent.{certificateOf}
+use Rattle.lent.specs.Lent.{certificateOf}
 use Rattle.dialogue.specs.Model.{Path}
 use Rattle.conditions.specs.Request.{Request}
 use Rattle.conditions.specs.Conditions.{Lends, bytesOf}

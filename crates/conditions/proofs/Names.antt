@@ -17,8 +17,9 @@ use Rattle.cert.specs.declared.Certificate.{Certificate}
 use Rattle.cert.specs.declared.Reading.{Reading}
 use Rattle.cert.specs.declared.Reading.the-variants.{Accepted, Refused as NotRead}
 use Rattle.cert.specs.Model.{readCertificate}
-use Rattle.cert.specs.Rfc5280.{Extension, Extensions, missing, present as given, extension, isNumber}
-use Rattle.cert.specs.Layout.{keptOf, slotFor, slots, knownAt, places}
+use Rattle.extensions.specs.Rfc5280.{Extension, Extensions, missing, present as given, extension, isNumber}
+use Rattle.extensions.specs.Layout.{keptOf, slotFor, slots, knownAt}
+use Rattle.cert.specs.Layout.{places}
 use Rattle.cert.proofs.Sound.{sound}
 use Rattle.cert.proofs.Laws.{read-inside}
 use Rattle.cert.proofs.Refusals.{ReadingFair, reading-not, read-fair}
@@ -28,10 +29,10 @@ use Rattle.dns.specs.Names.{wantedName}
 use Rattle.names.specs.General.{ForDns, ForIp, Reached}
 use Rattle.names.specs.Model.{goodForDns, goodForIp}
 use Rattle.names.proofs.Wanted.{dns-good, dns-refused, dns-malformed, ip-good, ip-refused}
-use Rattle.path.specs.Conditions.{Contents}
+use Rattle.checks.specs.Conditions.{Contents}
 use Rattle.path.specs.Model.{onReading}
-use Rattle.path.proofs.Contents.{contentsOf}
-use Rattle.path.proofs.Skeletons.{reads-certificate, certificate-reads}
+use Rattle.checks.proofs.Contents.{contentsOf}
+use Rattle.checks.proofs.Skeletons.{reads-certificate, certificate-reads}
 use Rattle.conditions.specs.Request.{Request}
 use Rattle.conditions.specs.Model.{refusalIn, nameIn, nameOf}
 use Rattle.conditions.specs.Conditions.{Lends, contentIn, Names, unwanted, dns, ip, Named}

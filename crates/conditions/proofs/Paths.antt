@@ -7,19 +7,20 @@ use native.Mathlib.Omega.{arith}
 use lib.ListN.{length, getD}
 use Rattle.cert.specs.declared.Reading.the-variants.{Accepted}
 use Rattle.path.specs.declared.candidate.Verdict.the-variants.{Extend}
-use Rattle.path.specs.Lent.{mostIntermediates, newest}
-use Rattle.path.specs.Conditions.{Contents, Role, issuer, Trusted, InValidity, InRole, ForPurpose, Fit, Same}
-use Rattle.path.specs.Skeletons.{IsCertificate}
+use Rattle.lent.specs.Lent.{mostIntermediates, newest}
+use Rattle.checks.specs.Conditions.{Contents, Role, issuer, InValidity, InRole, ForPurpose}
+use Rattle.path.specs.Conditions.{Trusted, Fit, Same}
+use Rattle.checks.specs.Skeletons.{IsCertificate}
 use Rattle.path.specs.Candidates.{Extends, Anchors}
 use Rattle.path.specs.Paths.{InOrder}
-use Rattle.path.specs.Questions.{Opens}
-use Rattle.path.proofs.Contents.{contentsOf}
-use Rattle.path.proofs.Skeletons.{certificate-reads}
+use Rattle.asked.specs.Questions.{Opens}
+use Rattle.checks.proofs.Contents.{contentsOf}
+use Rattle.checks.proofs.Skeletons.{certificate-reads}
 use Rattle.path.proofs.Verdicts.{extend-sound, anchor-sound, anchor-complete}
 use Rattle.path.proofs.Paths.{Grown, grown-in-order, in-order-grown}
 use Rattle.dialogue.specs.Model.{Path, signatures}
 use Rattle.dialogue.specs.Acceptable.{InOrder as Cleared, Grown as Reached, start, grow, Acceptable}
-use Rattle.search.specs.World.{worldOf}
+use Rattle.machine.specs.World.{worldOf}
 use Rattle.conditions.specs.Request.{Request}
 use Rattle.conditions.specs.Model.{worldFor, endOf}
 use Rattle.conditions.specs.Conditions.{Lends, Each, InPlace, Chain, Apart, bytesOf, Numbers, Readable, Signed, Named, Conditions}

@@ -7,12 +7,13 @@ use lib.ListN.{length, getD}
 use Rattle.der.specs.Places.{Bytes}
 use Rattle.dns.specs.Names.{wantedName}
 use Rattle.names.specs.General.{ForDns, ForIp, Reached}
-use Rattle.path.specs.Lent.{mostIntermediates, certificateOf}
-use Rattle.path.specs.Conditions.{Optional, absent, present, Contents, endEntity, issuer, Trusted, InValidity, InRole, ForPurpose, Chained, Same}
-use Rattle.path.specs.Skeletons.{IsCertificate}
-use Rattle.path.specs.Questions.{Opens}
+use Rattle.lent.specs.Lent.{mostIntermediates, certificateOf}
+use Rattle.checks.specs.Conditions.{Optional, absent, present, Contents, endEntity, issuer, InValidity, InRole, ForPurpose}
+use Rattle.path.specs.Conditions.{Trusted, Chained, Same}
+use Rattle.checks.specs.Skeletons.{IsCertificate}
+use Rattle.asked.specs.Questions.{Opens}
 use Rattle.dialogue.specs.Model.{Path}
-use Rattle.search.specs.World.{namesOf}
+use Rattle.machine.specs.World.{namesOf}
 use Rattle.conditions.specs.Request.{Request}
 use Rattle.conditions.specs.Model.{endOf}
 

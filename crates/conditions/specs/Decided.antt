@@ -11,7 +11,7 @@ use Rattle.dialogue.specs.Model.{Path, Outcome, accepted, refused, spent, event
 use Rattle.dialogue.specs.Dialogue.{Turn, answer, word, Leads, asked, Oracle, Veto, Agrees}
 use Rattle.dialogue.specs.Account.{Account, ownCost, Exhausted, UsedUp}
 use Rattle.dialogue.specs.Acceptable.{GivenContent, ByContent}
-use Rattle.dialogue.specs.Work.{weight, aTry, reads}
+use Rattle.dialogue.specs.Work.{weight, aTry, lookups, looks}
 use Rattle.conditions.specs.Request.{Request, Budgets}
 use Rattle.conditions.specs.Model.{nameOf, worldFor, endOf, searchOf}
 use Rattle.conditions.specs.Conditions.{Named, Conditions}
@@ -54,8 +54,11 @@ module _ (R : Request) (B : Budgets) (turns : List Turn) where
         → length (account .before) + length (take 1 (account .after)) ≤ suc (endOf R) * suc (B .extensions)
         -- at most A (C + 1) of them were anchors that were tried
         → weight aTry (account .before) + weight aTry (take 1 (account .after)) ≤ length (R .subjects) * suc (B .extensions)
-        -- and at most (35 A + 10 I + 10)(C + 1) certificates were read on the way, beside those of questions and answers
-        → weight reads (account .before) + weight reads (take 1 (account .after)) ≤ (10 * suc (endOf R) + 25 * length (R .subjects)) * suc (B .extensions)
+        -- at most (35 A + 10 I + 10)(C + 1) times a certificate was looked up on the way, beside questions and answers
+        → weight lookups (account .before) + weight lookups (take 1 (account .after)) ≤ (10 * suc (endOf R) + 25 * length (R .subjects)) * suc (B .extensions)
+        -- and at most ((36 + 2 D)(A + I + 1) + A)(C + 1) l bytes were looked at in comparing and checking, where no slice of bytes that is lent is longer than l, and D keys are distrusted
+        → ((l : ℕ) → weight (looks l (length (R .distrusted))) (account .before) + weight (looks l (length (R .distrusted))) (take 1 (account .after))
+        ≤ ((36 + 2 * length (R .distrusted)) * l * suc (endOf R) + l * length (R .subjects)) * suc (B .extensions))
         → Work
 
   pub record Decided (r : Outcome) : Type 0 where

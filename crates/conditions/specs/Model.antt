@@ -12,7 +12,7 @@ use Rattle.names.specs.declared.general.Verdict.the-variants.{Good, Refused}
 use Rattle.names.specs.Model.{goodForDns, goodForIp}
 use Rattle.path.specs.Model.{onReading}
 use Rattle.dialogue.specs.Model.{World, Outcome, accepted, refused, spent, Tree, done, ask, offer, unless, search}
-use Rattle.search.specs.World.{worldOf}
+use Rattle.machine.specs.World.{worldOf}
 use Rattle.conditions.specs.Request.{Request, Budgets}
 
 -- ---- the name: a refusal or none

@@ -5,7 +5,7 @@ use lib.ListN.{length, getD}
 use Rattle.constraints.specs.Rfc5280Names.{Others}
 use Rattle.constraints.specs.Conform.{PathMet}
 use Rattle.dialogue.specs.Model.{Path}
-use Rattle.search.specs.World.{isBound, namesOf}
+use Rattle.machine.specs.World.{isBound, namesOf}
 use Rattle.conditions.specs.Request.{Request}
 use Rattle.conditions.specs.Conditions.{bytesOf}
 

@@ -20,15 +20,15 @@ use Rattle.dns.specs.declared.Answer.{Answer}
 use Rattle.dns.specs.declared.Answer.the-variants.{Yes, No, Refused}
 use Rattle.names.specs.General.{General, Named, Each}
 use Rattle.names.proofs.Rows.{named-at}
-use Rattle.constraints.specs.declared.entries.Base.the-variants.{Is}
-use Rattle.constraints.specs.declared.entries.Seen.{Seen}
-use Rattle.constraints.specs.declared.entries.Step.{Step}
-use Rattle.constraints.specs.declared.entries.Step.the-variants.{Next, Stop}
+use Rattle.entries.specs.declared.Base.the-variants.{Is}
+use Rattle.entries.specs.declared.Seen.{Seen}
+use Rattle.entries.specs.declared.Step.{Step}
+use Rattle.entries.specs.declared.Step.the-variants.{Next, Stop}
+use Rattle.entries.specs.Tally.{Tally, tally, after}
+use Rattle.entries.specs.Model.{onBase, baseAt, compared, settled, judged, unseen, closed, ended, goOn, entries}
+use Rattle.entries.proofs.Laws.{base-inv, base-within, JudgedAs, judged-inv, not-next}
+use Rattle.entries.proofs.Refusals.{Stepped, judged-stepped}
 use Rattle.constraints.specs.Rfc5280Names.{subtrees, Some}
-use Rattle.constraints.specs.Tally.{Tally, tally, after}
-use Rattle.constraints.specs.Model.{onBase, baseAt, compared, settled, judged, unseen, closed, ended, goOn, entries}
-use Rattle.constraints.proofs.Laws.{base-inv, base-within, JudgedAs, judged-inv, not-next}
-use Rattle.constraints.proofs.Refusals.{Stepped, judged-stepped}
 
 -- ---- one check after another
 pub record BothPass (a b : Tally) : Type 0 where

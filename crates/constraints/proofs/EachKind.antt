@@ -17,8 +17,8 @@ use Rattle.dns.specs.Model.{matchPermitted, matchExcluded}
 use Rattle.names.specs.Model.{matchSubnet}
 use Rattle.dns.proofs.Match.{permitted-all, excluded-none, presented-refused}
 use Rattle.names.proofs.Subnet.{subnet-yes, subnet-no}
+use Rattle.entries.specs.Model.{compared}
 use Rattle.constraints.specs.Rfc5280Names.{Meaning, host, value, Means, Others, In}
-use Rattle.constraints.specs.Model.{compared}
 
 -- two answers that differ
 yes-no : {A : Type 0} {a : Answer} → a ≡ Yes → a ≡ No → A

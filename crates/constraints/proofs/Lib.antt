@@ -1,4 +1,3 @@
-pub mod Spending
 pub mod Laws
 pub mod Turns
 pub mod Refusals

@@ -1,7 +1,7 @@
 -- NEVER WEAKER, and COST: no refusal says that the path meets the name constraints of RFC 5280, at just so many comparisons. Assumes nothing.
 use Prim.Native.Nat.{ℕ, zero, suc, _+_, _-_, _*_, _≤_}
 use mathlib.Core.Path.{_≡_, refl, sym, ap, _∙_}
-use mathlib.Core.List.{List, [], _∷_, _++_}
+use mathlib.Core.List.{List, [], _∷_, _++_, map}
 use mathlib.Core.Bool.{Bool, true, false, cond}
 use mathlib.Core.Logic.{inl, inr, ⊎-elim}
 use lib.ListN.{length, getD, length-append}
@@ -24,21 +24,25 @@ use Rattle.cert.specs.declared.Certificate.{Certificate}
 use Rattle.cert.specs.declared.Reading.{Reading}
 use Rattle.cert.specs.declared.Reading.the-variants.{Accepted, Refused as NotRead}
 use Rattle.cert.specs.Model.{readCertificate}
-use Rattle.cert.proofs.Inversion.{on-content}
+use Rattle.extensions.proofs.Inversion.{on-content}
 use Rattle.dns.specs.declared.Answer.the-variants.{Yes, No}
 use Rattle.names.specs.declared.general.Name.{Name}
 use Rattle.names.specs.declared.general.Name.the-variants.{Found, Refused as NoName}
 use Rattle.names.specs.General.{General, Named, encoded, Each}
 use Rattle.names.specs.Model.{generalName}
 use Rattle.names.proofs.Rows.{named-at}
+use Rattle.entries.specs.Kinds.{directoryName}
+use Rattle.entries.specs.Tally.{Tally, tally, clean, after}
+use Rattle.entries.specs.Model.{onName, compared}
+use Rattle.entries.proofs.Refusals.{Called, name-called}
 use Rattle.constraints.specs.declared.Subtrees.{Subtrees}
 use Rattle.constraints.specs.declared.Lists.{Lists}
 use Rattle.constraints.specs.declared.Lists.the-variants.{Are, Refused as NoLists}
-use Rattle.constraints.specs.Rfc5280Names.{directoryName, subtrees, Field, absent, present, Others, In, Some, OfKind, Conforms}
+use Rattle.constraints.specs.Rfc5280Names.{subtrees, Field, absent, present, Others, In, Some, OfKind, Conforms}
 use Rattle.constraints.specs.Conform.{EachBytes, Presents, Presented, none, more, Met, OwnMet, IssuersMet, last, more as also, PathMet}
-use Rattle.constraints.specs.Tally.{Tally, tally, clean, after}
-use Rattle.constraints.specs.Model.{onName, compared, listAt, subtreesAt, name, nextName, alternatives, certificate, below, constraints, own, anchored, issuers, pathConstraints, cost, named}
-use Rattle.constraints.proofs.Refusals.{Called, Listed, name-called, lists-listed}
+use Rattle.constraints.specs.Paths.{lent}
+use Rattle.constraints.specs.Model.{listAt, subtreesAt, name, nextName, alternatives, certificate, belowIn, below, constraints, own, anchoredIn, anchored, issuersIn, issuers, pathConstraintsIn, cost, named}
+use Rattle.constraints.proofs.Refusals.{Listed, lists-listed}
 use Rattle.constraints.proofs.EachKind.{permitted-in, excluded-out, formed-yes, formed-no}
 use Rattle.constraints.proofs.Accepted.{BothPass, both-pass, part-empty, bytes-part, bases, entries-pass, gone-hit, gone-out}
 use Rattle.constraints.proofs.Turns.{certificate-is, certificate-unread, constraints-are, constraints-none, own-bound, own-free, own-unread}
@@ -239,9 +243,9 @@ module _ (other : Others) (s : List ℕ) (bytes : Bytes s) (lists : Subtrees) wh
     where
       go : (r : Reading) → readCertificate t true ≡ r → CertPassed t (certificate s lists t .taken)
       go (Accepted c) e =
-          let q = certificate-is s lists t c e in
+          let q = certificate-is s lists (lent t) c e in
           rw q (accepted-passes t bt c e (ap (λ (x : Tally). x .refusal) (sym q) ∙ z))
-      go (NotRead x) e = absurd (let q : badDer ≡ 0 = ap (λ (y : Tally). y .refusal) (sym (certificate-unread s lists t x e)) ∙ z in omega arith)
+      go (NotRead x) e = absurd (let q : badDer ≡ 0 = ap (λ (y : Tally). y .refusal) (sym (certificate-unread s lists (lent t) x e)) ∙ z in omega arith)
 
   -- ---- several
   record BelowPassed (cs : List (List ℕ)) (taken : ℕ) : Type 0 where
@@ -260,14 +264,14 @@ module _ (other : Others) (s : List ℕ) (bytes : Bytes s) (lists : Subtrees) wh
       }
 
   below-passes : (cs : List (List ℕ)) → EachBytes cs → below s lists cs .refusal ≡ 0 → BelowPassed cs (below s lists cs .taken)
-  unfolding below EachBytes Each
+  unfolding belowIn EachBytes Each
   below-passes [] bs z = record { names = []; presented = none; conform = tt; count = omega arith }
   below-passes (c ∷ cs) bs z =
       let b = both-pass _ _ z in
       rw (b .taken) (below-more c cs _ _ (certificate-passes c (bs .0) (b .first)) (below-passes cs (bs .1) (b .second)))
 
   head-lists : (c : List ℕ) (cs : List (List ℕ)) → EachBytes (c ∷ cs) → below s lists (c ∷ cs) .refusal ≡ 0 → ListsAre
-  unfolding below EachBytes
+  unfolding belowIn EachBytes
   head-lists c cs bs z = certificate-passes c (bs .0) (both-pass _ _ z .first) .lists-are
 
 -- ---- the two lists in the extension
@@ -347,7 +351,7 @@ module _ (other : Others) (s : List ℕ) (bytes : Bytes s) (from to : ℕ) (c : 
     where
       go : (l : Lists) → subtreesAt s from to ≡ l → Met other (part s from to) (c ∷ cs) (constraints s from to (c ∷ cs) .taken)
       go (Are lists) e =
-          let q = constraints-are s from to (c ∷ cs) lists e in
+          let q = constraints-are s from to (map lent (c ∷ cs)) lists e in
           let b = both-pass _ _ (ap (λ (x : Tally). x .refusal) (sym q) ∙ z) in
           by-end lists e q b (eqb (lists .excluded .end) to) refl
         where
@@ -361,7 +365,7 @@ module _ (other : Others) (s : List ℕ) (bytes : Bytes s) (from to : ℕ) (c : 
           by-end lists e q b false h = absurd (let y : badDer ≡ 0 = rw h at (b .second) in omega arith)
       go (NoLists x) e =
           let n : Listed (NoLists x) = rw e at (lists-listed s from to) in
-          absurd (n (ap (λ (y : Tally). y .refusal) (sym (constraints-none s from to (c ∷ cs) x e)) ∙ z))
+          absurd (n (ap (λ (y : Tally). y .refusal) (sym (constraints-none s from to (map lent (c ∷ cs)) x e)) ∙ z))
 
 -- ---- an issuer, the issuers, the path
 own-met : (other : Others) (t : List ℕ) → Bytes t → (c : List ℕ) (cs : List (List ℕ)) → EachBytes (c ∷ cs) → own t (c ∷ cs) .refusal ≡ 0 → OwnMet other t (c ∷ cs) (own t (c ∷ cs) .taken)
@@ -374,14 +378,14 @@ own-met other t bt c cs bs z = go (readCertificate t true) refl
           read = e;
           bound =
               λ h.
-              let q = own-bound t (c ∷ cs) x e h in
+              let q = own-bound (lent t) (map lent (c ∷ cs)) x e h in
               rw q (constraints-met other t bt _ _ c cs bs (ap (λ (y : Tally). y .refusal) (sym q) ∙ z));
-          free = λ h. ap (λ (y : Tally). y .taken) (own-free t (c ∷ cs) x e h);
+          free = λ h. ap (λ (y : Tally). y .taken) (own-free (lent t) (map lent (c ∷ cs)) x e h);
         }
-    go (NotRead x) e = absurd (let q : badDer ≡ 0 = ap (λ (y : Tally). y .refusal) (sym (own-unread t (c ∷ cs) x e)) ∙ z in omega arith)
+    go (NotRead x) e = absurd (let q : badDer ≡ 0 = ap (λ (y : Tally). y .refusal) (sym (own-unread (lent t) (map lent (c ∷ cs)) x e)) ∙ z in omega arith)
 
 issuers-met : (other : Others) (c : List ℕ) (cs : List (List ℕ)) → EachBytes (c ∷ cs) → issuers (c ∷ cs) .refusal ≡ 0 → IssuersMet other (c ∷ cs) (issuers (c ∷ cs) .taken)
-unfolding issuers EachBytes
+unfolding issuersIn EachBytes
 issuers-met other c [] bs z = last c
 issuers-met other c (d ∷ ds) bs z =
     let b = both-pass _ _ z in
@@ -393,12 +397,12 @@ part-all s = let e : length s - 0 ≡ length s = omega arith in rw e (take-all (
 
 anchor-met : (other : Others) (anchor : List ℕ) → Bytes anchor → (x : Bool) (c : List ℕ) (cs : List (List ℕ)) → EachBytes (c ∷ cs) → x ≡ true → anchored anchor x (c ∷ cs) .refusal ≡ 0
     → Met other anchor (c ∷ cs) (anchored anchor x (c ∷ cs) .taken)
-unfolding anchored
+unfolding anchoredIn
 anchor-met other anchor ba true c cs bs h z = rw (part-all anchor) at (constraints-met other anchor ba 0 (length anchor) c cs bs z)
 anchor-met other anchor ba false c cs bs h z = absurd (let y : _≡_ {A = ℕ} 0 1 = cc in omega arith)
 
 anchor-none : (anchor : List ℕ) (x : Bool) (cs : List (List ℕ)) → x ≡ false → anchored anchor x cs .taken ≡ 0
-unfolding anchored
+unfolding anchoredIn
 anchor-none anchor x cs h = rw h
 
 -- THEOREM: a path of which nothing is refused meets the constraints of its anchor and of each issuer, in the RFC's sense, whatever it is to be in a
@@ -406,7 +410,7 @@ anchor-none anchor x cs h = rw h
 -- each applies to, of names and subject times entries
 pub never-weaker : (other : Others) (anchor : List ℕ) → Bytes anchor → (bound : Bool) (c : List ℕ) (cs : List (List ℕ)) → EachBytes (c ∷ cs) → named anchor bound (c ∷ cs) ≡ 0
     → PathMet other anchor bound (c ∷ cs) (cost anchor bound (c ∷ cs))
-unfolding pathConstraints
+unfolding pathConstraintsIn
 never-weaker other anchor ba bound c cs bs z =
     let b = both-pass (anchored anchor bound (c ∷ cs)) (issuers (c ∷ cs)) z in
     record {

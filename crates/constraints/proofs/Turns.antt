@@ -10,14 +10,13 @@ use Rattle.refusal.specs.Refusals.{badDer}
 use Rattle.der.specs.Places.{part}
 use Rattle.cert.specs.declared.Certificate.{Certificate}
 use Rattle.cert.specs.declared.Reading.the-variants.{Accepted, Refused as NotRead}
-use Rattle.cert.specs.Model.{readCertificate}
-use Rattle.constraints.specs.declared.Spent.{Spent}
+use Rattle.entries.specs.declared.Spent.{Spent}
+use Rattle.entries.specs.Tally.{Tally, tally, clean, after, spend}
+use Rattle.entries.proofs.Spending.{at-once, refused-first, passed-first}
 use Rattle.constraints.specs.declared.Subtrees.{Subtrees}
 use Rattle.constraints.specs.declared.Lists.the-variants.{Are, Refused as NoLists}
-use Rattle.constraints.specs.Tally.{Tally, tally, clean, after, spend}
-use Rattle.constraints.specs.Paths.{lower, certAt, certsAt}
-use Rattle.constraints.specs.Model.{name, alternatives, onRead, certificate, subtreesAt, onLists, below, constraints, own, issuers}
-use Rattle.constraints.proofs.Spending.{at-once, refused-first, passed-first}
+use Rattle.constraints.specs.Paths.{Noted, lower, certAt, certsAt}
+use Rattle.constraints.specs.Model.{name, alternatives, onRead, certificateAs, subtreesAt, onLists, belowIn, constraintsIn, ownIn, issuersIn}
 use Rattle.constraints.proofs.Laws.{lowest, higher, issuers-more, issuers-last}
 
 -- a check that refuses nothing, and nothing after it
@@ -27,83 +26,83 @@ passed-last left a x e z =
     f ∙ sym (at-once (x .left) 0) ∙ passed-first left a clean x e z
 
 -- ---- one certificate
-module _ (s : List ℕ) (lists : Subtrees) (t : List ℕ) where
-  pub certificate-is : (c : Certificate) → readCertificate t true ≡ Accepted c
-      → certificate s lists t ≡ after (alternatives s lists t (c .known .«alternative_name» .start) (c .known .«alternative_name» .end)) (name s lists 164 (part t (c .subject .start) (c .subject .end)))
-  unfolding certificate onRead
+module _ (s : List ℕ) (lists : Subtrees) (t : Noted) where
+  pub certificate-is : (c : Certificate) → t .reading ≡ Accepted c
+      → certificateAs s lists t ≡ after (alternatives s lists (t .bytes) (c .known .«alternative_name» .start) (c .known .«alternative_name» .end)) (name s lists 164 (part (t .bytes) (c .subject .start) (c .subject .end)))
+  unfolding certificateAs onRead
   certificate-is c e = rw e
 
-  pub certificate-unread : (e : ℕ) → readCertificate t true ≡ NotRead e → certificate s lists t ≡ tally 0 badDer
-  unfolding certificate onRead
+  pub certificate-unread : (e : ℕ) → t .reading ≡ NotRead e → certificateAs s lists t ≡ tally 0 badDer
+  unfolding certificateAs onRead
   certificate-unread e h = rw h
 
 -- ---- the certificates of a path from level k down
-module _ (s : List ℕ) (lists : Subtrees) (I : List (List ℕ)) (end path : List ℕ) (k i left : ℕ) (one whole : Spent) (number : i ≡ getD path k 0)
-    (is : one ≡ spend left (certificate s lists (certAt I end i))) (inv : spend left (below s lists (certsAt I end path k)) ≡ whole) where
-  here : one ≡ spend left (certificate s lists (certAt I end (getD path k 0)))
-  here = is ∙ ap (λ (n : ℕ). spend left (certificate s lists (certAt I end n))) number
+module _ (s : List ℕ) (lists : Subtrees) (T I : List (List ℕ)) (end path : List ℕ) (k i left : ℕ) (one whole : Spent) (number : i ≡ getD path k 0)
+    (is : one ≡ spend left (certificateAs s lists (certAt T I end i))) (inv : spend left (belowIn s lists (certsAt T I end path k)) ≡ whole) where
+  here : one ≡ spend left (certificateAs s lists (certAt T I end (getD path k 0)))
+  here = is ∙ ap (λ (n : ℕ). spend left (certificateAs s lists (certAt T I end n))) number
 
-  top-down : below s lists (certsAt I end path k) ≡ after (certificate s lists (certAt I end (getD path k 0))) (below s lists (map (certAt I end) (lower path k)))
-  unfolding certsAt below
+  top-down : belowIn s lists (certsAt T I end path k) ≡ after (certificateAs s lists (certAt T I end (getD path k 0))) (belowIn s lists (map (certAt T I end) (lower path k)))
+  unfolding certsAt belowIn
   top-down = refl
 
   pub below-refuses : (one .refusal ≡ 0 → ⊥) → one ≡ whole
-  below-refuses n = refused-first left _ (below s lists (map (certAt I end) (lower path k))) one here n ∙ sym (ap (spend left) top-down) ∙ inv
+  below-refuses n = refused-first left _ (belowIn s lists (map (certAt T I end) (lower path k))) one here n ∙ sym (ap (spend left) top-down) ∙ inv
 
   pub below-ends : k ≡ 0 → one .refusal ≡ 0 → one ≡ whole
-  unfolding below
+  unfolding belowIn
   below-ends k0 z =
-      let e : below s lists (certsAt I end path k) ≡ after (certificate s lists (certAt I end (getD path k 0))) clean = rw (lowest I end path k k0) in
+      let e : belowIn s lists (certsAt T I end path k) ≡ after (certificateAs s lists (certAt T I end (getD path k 0))) clean = rw (lowest T I end path k k0) in
       passed-last left _ one here z ∙ sym (ap (spend left) e) ∙ inv
 
-  pub below-goes : (k ≡ 0 → ⊥) → one .refusal ≡ 0 → spend (one .left) (below s lists (certsAt I end path (k - 1))) ≡ whole
-  unfolding below
+  pub below-goes : (k ≡ 0 → ⊥) → one .refusal ≡ 0 → spend (one .left) (belowIn s lists (certsAt T I end path (k - 1))) ≡ whole
+  unfolding belowIn
   below-goes n z =
-      let e : below s lists (certsAt I end path k) ≡ after (certificate s lists (certAt I end (getD path k 0))) (below s lists (certsAt I end path (k - 1))) = rw (higher I end path k n) in
-      passed-first left _ (below s lists (certsAt I end path (k - 1))) one here z ∙ sym (ap (spend left) e) ∙ inv
+      let e : belowIn s lists (certsAt T I end path k) ≡ after (certificateAs s lists (certAt T I end (getD path k 0))) (belowIn s lists (certsAt T I end path (k - 1))) = rw (higher T I end path k n) in
+      passed-first left _ (belowIn s lists (certsAt T I end path (k - 1))) one here z ∙ sym (ap (spend left) e) ∙ inv
 
 -- ---- one issuer's constraints
-module _ (s : List ℕ) (from to : ℕ) (cs : List (List ℕ)) where
+module _ (s : List ℕ) (from to : ℕ) (cs : List Noted) where
   pub constraints-are : (lists : Subtrees) → subtreesAt s from to ≡ Are lists
-      → constraints s from to cs ≡ after (below s lists cs) (cond (eqb (lists .excluded .end) to) clean (tally 0 badDer))
-  unfolding constraints onLists
+      → constraintsIn s from to cs ≡ after (belowIn s lists cs) (cond (eqb (lists .excluded .end) to) clean (tally 0 badDer))
+  unfolding constraintsIn onLists
   constraints-are lists e = rw e
 
-  pub constraints-all : (lists : Subtrees) → subtreesAt s from to ≡ Are lists → lists .excluded .end ≡ to → constraints s from to cs ≡ after (below s lists cs) clean
+  pub constraints-all : (lists : Subtrees) → subtreesAt s from to ≡ Are lists → lists .excluded .end ≡ to → constraintsIn s from to cs ≡ after (belowIn s lists cs) clean
   constraints-all lists e h = constraints-are lists e ∙ rw (eq-eqb _ _ h)
 
-  pub constraints-more : (lists : Subtrees) → subtreesAt s from to ≡ Are lists → (lists .excluded .end ≡ to → ⊥) → constraints s from to cs ≡ after (below s lists cs) (tally 0 badDer)
+  pub constraints-more : (lists : Subtrees) → subtreesAt s from to ≡ Are lists → (lists .excluded .end ≡ to → ⊥) → constraintsIn s from to cs ≡ after (belowIn s lists cs) (tally 0 badDer)
   constraints-more lists e h = constraints-are lists e ∙ rw (ne-eqb _ _ h)
 
-  pub constraints-none : (e : ℕ) → subtreesAt s from to ≡ NoLists e → constraints s from to cs ≡ tally 0 e
-  unfolding constraints onLists
+  pub constraints-none : (e : ℕ) → subtreesAt s from to ≡ NoLists e → constraintsIn s from to cs ≡ tally 0 e
+  unfolding constraintsIn onLists
   constraints-none e h = rw h
 
-module _ (t : List ℕ) (cs : List (List ℕ)) where
-  pub own-bound : (c : Certificate) → readCertificate t true ≡ Accepted c → c .known .«name_constraints» .known ≡ true
-      → own t cs ≡ constraints t (c .known .«name_constraints» .start) (c .known .«name_constraints» .end) cs
-  unfolding own onRead
+module _ (t : Noted) (cs : List Noted) where
+  pub own-bound : (c : Certificate) → t .reading ≡ Accepted c → c .known .«name_constraints» .known ≡ true
+      → ownIn t cs ≡ constraintsIn (t .bytes) (c .known .«name_constraints» .start) (c .known .«name_constraints» .end) cs
+  unfolding ownIn onRead
   own-bound c e h = rw (e, h)
 
-  pub own-free : (c : Certificate) → readCertificate t true ≡ Accepted c → c .known .«name_constraints» .known ≡ false → own t cs ≡ clean
-  unfolding own onRead
+  pub own-free : (c : Certificate) → t .reading ≡ Accepted c → c .known .«name_constraints» .known ≡ false → ownIn t cs ≡ clean
+  unfolding ownIn onRead
   own-free c e h = rw (e, h)
 
-  pub own-unread : (e : ℕ) → readCertificate t true ≡ NotRead e → own t cs ≡ tally 0 badDer
-  unfolding own onRead
+  pub own-unread : (e : ℕ) → t .reading ≡ NotRead e → ownIn t cs ≡ tally 0 badDer
+  unfolding ownIn onRead
   own-unread e h = rw h
 
 -- ---- the issuers of a path from level k down
-module _ (I : List (List ℕ)) (end path : List ℕ) (k i left : ℕ) (one whole : Spent) (number : i ≡ getD path k 0) (some : k ≡ 0 → ⊥)
-    (is : one ≡ spend left (own (certAt I end i) (certsAt I end path (k - 1)))) (inv : spend left (issuers (certsAt I end path k)) ≡ whole) where
-  this : one ≡ spend left (own (certAt I end (getD path k 0)) (certsAt I end path (k - 1)))
-  this = is ∙ ap (λ (n : ℕ). spend left (own (certAt I end n) (certsAt I end path (k - 1)))) number
+module _ (T I : List (List ℕ)) (end path : List ℕ) (k i left : ℕ) (one whole : Spent) (number : i ≡ getD path k 0) (some : k ≡ 0 → ⊥)
+    (is : one ≡ spend left (ownIn (certAt T I end i) (certsAt T I end path (k - 1)))) (inv : spend left (issuersIn (certsAt T I end path k)) ≡ whole) where
+  this : one ≡ spend left (ownIn (certAt T I end (getD path k 0)) (certsAt T I end path (k - 1)))
+  this = is ∙ ap (λ (n : ℕ). spend left (ownIn (certAt T I end n) (certsAt T I end path (k - 1)))) number
 
   pub issuers-refuse : (one .refusal ≡ 0 → ⊥) → one ≡ whole
-  issuers-refuse n = refused-first left _ _ one this n ∙ sym (ap (spend left) (issuers-more I end path k some)) ∙ inv
+  issuers-refuse n = refused-first left _ _ one this n ∙ sym (ap (spend left) (issuers-more T I end path k some)) ∙ inv
 
-  pub issuers-go : one .refusal ≡ 0 → spend (one .left) (issuers (certsAt I end path (k - 1))) ≡ whole
-  issuers-go z = passed-first left _ _ one this z ∙ sym (ap (spend left) (issuers-more I end path k some)) ∙ inv
+  pub issuers-go : one .refusal ≡ 0 → spend (one .left) (issuersIn (certsAt T I end path (k - 1))) ≡ whole
+  issuers-go z = passed-first left _ _ one this z ∙ sym (ap (spend left) (issuers-more T I end path k some)) ∙ inv
 
-pub issuers-end : (I : List (List ℕ)) (end path : List ℕ) (k left : ℕ) (whole : Spent) → k ≡ 0 → spend left (issuers (certsAt I end path k)) ≡ whole → record { left = left; refusal = 0 } ≡ whole
-issuers-end I end path k left whole z inv = sym (at-once left 0) ∙ sym (ap (spend left) (issuers-last I end path k z)) ∙ inv
+pub issuers-end : (T I : List (List ℕ)) (end path : List ℕ) (k left : ℕ) (whole : Spent) → k ≡ 0 → spend left (issuersIn (certsAt T I end path k)) ≡ whole → record { left = left; refusal = 0 } ≡ whole
+issuers-end T I end path k left whole z inv = sym (at-once left 0) ∙ sym (ap (spend left) (issuers-last T I end path k z)) ∙ inv

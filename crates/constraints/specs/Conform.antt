@@ -10,7 +10,8 @@ use Rattle.cert.specs.declared.Certificate.{Certificate}
 use Rattle.cert.specs.declared.Reading.the-variants.{Accepted}
 use Rattle.cert.specs.Model.{readCertificate}
 use Rattle.names.specs.General.{General, Named, encoded, Each}
-use Rattle.constraints.specs.Rfc5280Names.{directoryName, NameConstraints, Others, Conforms}
+use Rattle.entries.specs.Kinds.{directoryName}
+use Rattle.constraints.specs.Rfc5280Names.{NameConstraints, Others, Conforms}
 
 -- bytes, as every certificate has them
 unfoldable pub EachBytes : List (List ℕ) → Type 0

@@ -1,10 +1,11 @@
--- What the code answers with no budget in mind, as functions of the bytes: the same tests in the same order.
+-- What the code answers with no budget in mind, as functions of the bytes and of what is known of each certificate: the same tests in the same
+-- order. From one certificate on each has an abbreviation for the case that what is known is what is read of the bytes.
 use Prim.Native.Nat.{ℕ}
-use mathlib.Core.List.{List, [], _∷_}
+use mathlib.Core.List.{List, [], _∷_, map}
 use mathlib.Core.Bool.{Bool, true, false, cond}
 use lib.ListN.{length, getD}
 use lib.Dec.{ltb, leb, eqb}
-use Rattle.refusal.specs.Refusals.{badDer, trailingGeneralName, nameConstraintViolation}
+use Rattle.refusal.specs.Refusals.{badDer}
 use Rattle.der.specs.declared.Got.{Got}
 use Rattle.der.specs.declared.Got.the-variants.{Content, Refused as NoContent}
 use Rattle.der.specs.Model.{expectAt, onContent}
@@ -13,82 +14,15 @@ use Rattle.der.specs.Loop.{walk}
 use Rattle.cert.specs.declared.Certificate.{Certificate}
 use Rattle.cert.specs.declared.Reading.{Reading}
 use Rattle.cert.specs.declared.Reading.the-variants.{Accepted, Refused as NotRead}
-use Rattle.cert.specs.Model.{readCertificate}
-use Rattle.dns.specs.declared.Answer.{Answer}
-use Rattle.dns.specs.declared.Answer.the-variants.{Yes, No, Refused as NoAnswer}
 use Rattle.names.specs.declared.general.Name.{Name}
-use Rattle.names.specs.declared.general.Name.the-variants.{Found, Refused as NoName}
-use Rattle.names.specs.General.{dnsName, ipAddress}
-use Rattle.dns.specs.Model.{matchPermitted, matchExcluded}
-use Rattle.names.specs.Model.{generalName, matchSubnet}
+use Rattle.names.specs.Model.{generalName}
+use Rattle.entries.specs.Kinds.{directoryName}
+use Rattle.entries.specs.Tally.{Tally, tally, clean, after}
+use Rattle.entries.specs.Model.{onName, entries}
 use Rattle.constraints.specs.declared.Subtrees.{Subtrees}
 use Rattle.constraints.specs.declared.Lists.{Lists}
 use Rattle.constraints.specs.declared.Lists.the-variants.{Are, Refused as NoLists}
-use Rattle.constraints.specs.declared.entries.Base.{Base}
-use Rattle.constraints.specs.declared.entries.Base.the-variants.{Is, Refused as NoBase}
-use Rattle.constraints.specs.declared.entries.Seen.{Seen}
-use Rattle.constraints.specs.declared.entries.Step.{Step}
-use Rattle.constraints.specs.declared.entries.Step.the-variants.{Next, Stop}
-use Rattle.constraints.specs.Rfc5280Names.{directoryName}
-use Rattle.constraints.specs.Tally.{Tally, tally, clean, after}
-
-unfoldable pub onName : {R : Type 0} → Name → (ℕ → R) → (ℕ → ℕ → ℕ → R) → R
-onName (Found kind start end) other k = k kind start end
-onName (NoName e) other k = other e
-
--- ---- one entry against one name
-unfoldable pub baseAt : List ℕ → ℕ → ℕ → Base
-baseAt s at to =
-    onContent (expectAt s at to 48 badDer) NoBase (λ a b.
-    onName (generalName s a b) NoBase (λ kind start end.
-    cond (eqb end b) (Is kind start end) (NoBase trailingGeneralName)))
-
-abbrev uniformResourceIdentifier : ℕ
-uniformResourceIdentifier = 134
-
-unfoldable pub compared : Bool → ℕ → List ℕ → List ℕ → Answer
-compared excluded kind p q =
-    cond (eqb kind dnsName)
-    (cond excluded (matchExcluded p q) (matchPermitted p q))
-    (cond (eqb kind ipAddress)
-    (matchSubnet p q)
-    (cond (eqb kind directoryName)
-    (cond excluded Yes No)
-    (cond (eqb kind uniformResourceIdentifier) (cond excluded Yes No) (NoAnswer nameConstraintViolation))))
-
-unfoldable pub settled : Bool → Seen → ℕ → Answer → Step
-settled excluded seen next Yes =
-    cond excluded (Stop nameConstraintViolation) (Next next (record { hit = true; miss = seen .miss }))
-settled excluded seen next No = cond excluded (Next next seen) (Next next (record { hit = seen .hit; miss = true }))
-settled excluded seen next (NoAnswer e) = Stop e
-
-unfoldable pub onBase : {R : Type 0} → Base → (ℕ → R) → (ℕ → ℕ → ℕ → R) → R
-onBase (Is kind start end) other k = k kind start end
-onBase (NoBase e) other k = other e
-
-unfoldable pub judged : List ℕ → ℕ → Bool → ℕ → List ℕ → ℕ → Seen → Step
-judged s to excluded kind p at seen =
-    onBase (baseAt s at to) Stop (λ base start end.
-    cond (eqb base kind)
-    (settled excluded seen end (compared excluded kind p (part s start end)))
-    (Next end seen))
-
--- ---- a list of entries against one name
-abbrev pub unseen : Seen
-unseen = record { hit = false; miss = false }
-
-unfoldable pub closed : Seen → ℕ
-closed seen = cond (seen .hit) 0 (cond (seen .miss) nameConstraintViolation 0)
-
-unfoldable pub ended : ℕ → Seen → Tally
-ended at seen = tally 0 (closed seen)
-
-unfoldable pub goOn : Step → (ℕ → Seen → Tally) → Tally
-goOn (Next at seen) k = after (tally 1 0) (k at seen)
-goOn (Stop e) k = tally 1 e
-
-unfoldable pub entries : List ℕ → ℕ → ℕ → Bool → ℕ → List ℕ → Tally
-entries s from to excluded kind p = walk to ended (λ at seen. goOn (judged s to excluded kind p at seen)) from unseen
+use Rattle.constraints.specs.Paths.{Noted, lent}
 
 -- ---- both lists
 unfoldable pub listAt : List ℕ → ℕ → ℕ → ℕ → Got
@@ -130,45 +64,66 @@ onRead (NotRead e) other k = other
 abbrev pub unread : Tally
 unread = tally 0 badDer
 
-unfoldable pub certificate : List ℕ → Subtrees → List ℕ → Tally
-certificate s lists t =
-    onRead (readCertificate t true) unread (λ c.
+unfoldable pub certificateAs : List ℕ → Subtrees → Noted → Tally
+certificateAs s lists t =
+    onRead (t .reading) unread (λ c.
     after
-    (alternatives s lists t (c .known .«alternative_name» .start) (c .known .«alternative_name» .end))
-    (name s lists directoryName (part t (c .subject .start) (c .subject .end))))
+    (alternatives s lists (t .bytes) (c .known .«alternative_name» .start) (c .known .«alternative_name» .end))
+    (name s lists directoryName (part (t .bytes) (c .subject .start) (c .subject .end))))
+
+abbrev pub certificate : List ℕ → Subtrees → List ℕ → Tally
+certificate s lists t = certificateAs s lists (lent t)
 
 -- ---- one issuer's constraints and the certificates below, the highest first
-unfoldable pub below : List ℕ → Subtrees → List (List ℕ) → Tally
-below s lists [] = clean
-below s lists (c ∷ cs) = after (certificate s lists c) (below s lists cs)
+unfoldable pub belowIn : List ℕ → Subtrees → List Noted → Tally
+belowIn s lists [] = clean
+belowIn s lists (c ∷ cs) = after (certificateAs s lists c) (belowIn s lists cs)
+
+abbrev pub below : List ℕ → Subtrees → List (List ℕ) → Tally
+below s lists cs = belowIn s lists (map lent cs)
 
 unfoldable pub onLists : {R : Type 0} → Lists → (ℕ → R) → (Subtrees → R) → R
 onLists (Are lists) other k = k lists
 onLists (NoLists e) other k = other e
 
-unfoldable pub constraints : List ℕ → ℕ → ℕ → List (List ℕ) → Tally
-constraints s from to cs =
+unfoldable pub constraintsIn : List ℕ → ℕ → ℕ → List Noted → Tally
+constraintsIn s from to cs =
     onLists (subtreesAt s from to) (tally 0) (λ lists.
-    after (below s lists cs) (cond (eqb (lists .excluded .end) to) clean (tally 0 badDer)))
+    after (belowIn s lists cs) (cond (eqb (lists .excluded .end) to) clean (tally 0 badDer)))
 
-unfoldable pub own : List ℕ → List (List ℕ) → Tally
-own t cs =
-    onRead (readCertificate t true) unread (λ c.
+abbrev pub constraints : List ℕ → ℕ → ℕ → List (List ℕ) → Tally
+constraints s from to cs = constraintsIn s from to (map lent cs)
+
+unfoldable pub ownIn : Noted → List Noted → Tally
+ownIn t cs =
+    onRead (t .reading) unread (λ c.
     cond (c .known .«name_constraints» .known)
-    (constraints t (c .known .«name_constraints» .start) (c .known .«name_constraints» .end) cs)
+    (constraintsIn (t .bytes) (c .known .«name_constraints» .start) (c .known .«name_constraints» .end) cs)
     clean)
 
-unfoldable pub anchored : List ℕ → Bool → List (List ℕ) → Tally
-anchored anchor bound cs = cond bound (constraints anchor 0 (length anchor) cs) clean
+abbrev pub own : List ℕ → List (List ℕ) → Tally
+own t cs = ownIn (lent t) (map lent cs)
+
+unfoldable pub anchoredIn : List ℕ → Bool → List Noted → Tally
+anchoredIn anchor bound cs = cond bound (constraintsIn anchor 0 (length anchor) cs) clean
+
+abbrev pub anchored : List ℕ → Bool → List (List ℕ) → Tally
+anchored anchor bound cs = anchoredIn anchor bound (map lent cs)
 
 -- ---- a path, the highest certificate first: each has those below it to answer for; the last, the end entity, has none
-unfoldable pub issuers : List (List ℕ) → Tally
-issuers [] = clean
-issuers (c ∷ []) = clean
-issuers (c ∷ (d ∷ ds)) = after (own c (d ∷ ds)) (issuers (d ∷ ds))
+unfoldable pub issuersIn : List Noted → Tally
+issuersIn [] = clean
+issuersIn (c ∷ []) = clean
+issuersIn (c ∷ (d ∷ ds)) = after (ownIn c (d ∷ ds)) (issuersIn (d ∷ ds))
 
-unfoldable pub pathConstraints : List ℕ → Bool → List (List ℕ) → Tally
-pathConstraints anchor bound cs = after (anchored anchor bound cs) (issuers cs)
+abbrev pub issuers : List (List ℕ) → Tally
+issuers cs = issuersIn (map lent cs)
+
+unfoldable pub pathConstraintsIn : List ℕ → Bool → List Noted → Tally
+pathConstraintsIn anchor bound cs = after (anchoredIn anchor bound cs) (issuersIn cs)
+
+abbrev pub pathConstraints : List ℕ → Bool → List (List ℕ) → Tally
+pathConstraints anchor bound cs = pathConstraintsIn anchor bound (map lent cs)
 
 -- the comparisons up to the first refusal, and that refusal
 abbrev pub cost : List ℕ → Bool → List (List ℕ) → ℕ

@@ -1,7 +1,24 @@
--- A path by the numbers of its certificates, as a list of their bytes.
+-- A path by the numbers of its certificates, as a list of their bytes and of what is known of each.
 use Prim.Native.Nat.{ℕ, zero, suc}
 use mathlib.Core.List.{List, [], _∷_, map}
-use lib.ListN.{getD}
+use mathlib.Core.Bool.{true, cond}
+use lib.ListN.{length, getD}
+use lib.Dec.{ltb}
+use Rattle.cert.specs.declared.Reading.{Reading}
+use Rattle.cert.specs.Model.{readCertificate}
+use Rattle.table.specs.Model.{readingIn}
+
+-- a certificate: its bytes, and what is known of it
+pub record Noted : Type 0 where
+  pub bytes : List ℕ
+  pub reading : Reading
+
+abbrev pub noted : List ℕ → Reading → Noted
+noted s r = record { bytes = s; reading = r }
+
+-- a certificate of which is known what is read
+abbrev pub lent : List ℕ → Noted
+lent s = noted s (readCertificate s true)
 
 -- the numbers below level d, the highest first, and those up to it
 unfoldable pub lower : List ℕ → ℕ → List ℕ
@@ -11,10 +28,14 @@ lower path (suc d) = getD path d 0 ∷ lower path d
 abbrev pub upTo : List ℕ → ℕ → List ℕ
 upTo path d = getD path d 0 ∷ lower path d
 
--- the certificate of a number: an intermediate, or from their end on the end entity
-unfoldable pub certAt : List (List ℕ) → List ℕ → ℕ → List ℕ
-certAt issuers end i = getD issuers i end
+-- the row of a number in a table of readings: the intermediates' come first, the end entity's after them
+unfoldable pub rowOf : ℕ → ℕ → ℕ
+rowOf count i = cond (ltb i count) i count
+
+-- the certificate of a number, by such a table: an intermediate, or from their end on the end entity
+unfoldable pub certAt : List (List ℕ) → List (List ℕ) → List ℕ → ℕ → Noted
+certAt table issuers end i = noted (getD issuers i end) (readingIn table (rowOf (length issuers) i) (getD issuers i end))
 
 -- the certificates up to level d, the highest first and the end entity last
-unfoldable pub certsAt : List (List ℕ) → List ℕ → List ℕ → ℕ → List (List ℕ)
-certsAt issuers end path d = map (certAt issuers end) (upTo path d)
+unfoldable pub certsAt : List (List ℕ) → List (List ℕ) → List ℕ → List ℕ → ℕ → List Noted
+certsAt table issuers end path d = map (certAt table issuers end) (upTo path d)

@@ -9,10 +9,6 @@ use Rattle.dns.specs.Names.{Labels, labels, presentedName, StandsFor, InSubtree
 use Rattle.names.specs.General.{dnsName, ipAddress, General, Named, Each}
 use Rattle.names.specs.Addresses.{InSubnet}
 
--- the kind of a subject, 4.2.1.10
-abbrev pub directoryName : ℕ
-directoryName = 164
-
 -- ---- 4.2.1.10: the extension
 -- GeneralSubtrees: of each the base alone, since minimum is 0, which DER leaves out, and maximum is absent
 unfoldable pub subtrees : List General → List ℕ

@@ -3,22 +3,16 @@
 use cert::Reading;
 use der::Got;
 use der::Span;
+use entries::Spent;
 use names::general;
 use names::general::Name;
 ghost use mathlib.Core.Path.{_≡_};
 ghost use mathlib.Core.List.{map};
 ghost use lib.ListN.{getD, length};
-ghost use Rattle.constraints.specs.Tally.{spend};
-ghost use Rattle.constraints.specs.Paths.{certAt, certsAt};
-ghost use Rattle.constraints.specs.Model.{listAt, subtreesAt, name, alternatives, certificate, below, constraints, own, anchored, pathConstraints};
-
-pub mod entries;
-
-// What is left of the comparisons, and the first refusal; 0: none.
-pub struct Spent {
-    pub left: u64,
-    pub refusal: u16,
-}
+ghost use Rattle.der.specs.Places.{part};
+ghost use Rattle.entries.specs.Tally.{spend};
+ghost use Rattle.constraints.specs.Paths.{noted, certAt, certsAt};
+ghost use Rattle.constraints.specs.Model.{listAt, subtreesAt, name, alternatives, certificateAs, belowIn, constraintsIn, ownIn, anchoredIn, pathConstraintsIn};
 
 // The two lists of name constraints, each without its header; one that is not there is empty.
 pub struct Subtrees {
@@ -113,11 +107,27 @@ fn alternatives(s: &[u8], lists: Subtrees, t: &[u8], from: usize, to: usize, lef
     }
 }
 
-// The certificate t: its alternative names, then its subject, which is a directory name.
-fn certificate(s: &[u8], lists: Subtrees, t: &[u8], left: u64) -> Spent
-    ensures { λ r. ⌜ r ≡ spend left (certificate (now (s .entry)) lists (now (t .entry))) ⌝ }
+// What stands between two places, as far as t has it: what is known of t need not have been read of t.
+fn cut<'a>(t: &'a [u8], from: usize, to: usize) -> &'a [u8]
+    ensures { λ r. ⌜ now r ≡ part (now (t .entry)) from to ⌝ }
 {
-    match cert::read(t, true) {
+    if to <= from {
+        return &t[0..0];
+    }
+    if t.len() <= from {
+        return &t[0..0];
+    }
+    if t.len() < to {
+        return &t[from..];
+    }
+    &t[from..to]
+}
+
+// The certificate t, of which that much is known: its alternative names, then its subject, which is a directory name.
+fn certificate(s: &[u8], lists: Subtrees, t: &[u8], reading: Reading, left: u64) -> Spent
+    ensures { λ r. ⌜ r ≡ spend left (certificateAs (now (s .entry)) lists (noted (now (t .entry)) reading)) ⌝ }
+{
+    match reading {
         Reading::Accepted(c) => {
             let known = c.known;
             let names = known.alternative_name;
@@ -126,9 +136,8 @@ fn certificate(s: &[u8], lists: Subtrees, t: &[u8], left: u64) -> Spent
                 return named;
             }
             let subject = c.subject;
-            let start = subject.start;
-            let end = subject.end;
-            name(s, lists, general::DIRECTORY, &t[start..end], named.left)
+            let content = cut(t, subject.start, subject.end);
+            name(s, lists, general::DIRECTORY, content, named.left)
         }
         Reading::Refused(_) => Spent {
             left,
@@ -145,19 +154,28 @@ fn number_at(path: [usize; 7], i: usize) -> usize
 }
 
 // The certificate of a number: an intermediate, or from their end on the end entity.
-fn numbered(s: &[u8], lists: Subtrees, issuers: &[&[u8]], end: &[u8], i: usize, left: u64) -> Spent
-    ensures { λ r. ⌜ r ≡ spend left (certificate (now (s .entry)) lists (certAt (map now (now (issuers .entry))) (now (end .entry)) i)) ⌝ }
+fn numbered(
+    table: &[[usize; 37]],
+    s: &[u8],
+    lists: Subtrees,
+    issuers: &[&[u8]],
+    end: &[u8],
+    i: usize,
+    left: u64,
+) -> Spent
+    ensures { λ r. ⌜ r ≡ spend left (certificateAs (now (s .entry)) lists (certAt (now (table .entry)) (map now (now (issuers .entry))) (now (end .entry)) i)) ⌝ }
 {
     if i < issuers.len() {
         let t = issuers[i];
-        certificate(s, lists, t, left)
-    } else {
-        certificate(s, lists, end, left)
+        return certificate(s, lists, t, table::reading(table, i, t), left);
     }
+    let known = table::reading(table, issuers.len(), end);
+    certificate(s, lists, end, known, left)
 }
 
 // The certificates of a path from the one at `level` down to the end entity.
 fn below(
+    table: &[[usize; 37]],
     s: &[u8],
     lists: Subtrees,
     issuers: &[&[u8]],
@@ -166,12 +184,12 @@ fn below(
     level: usize,
     left: u64,
 ) -> Spent
-    ensures { λ r. ⌜ r ≡ spend left (below (now (s .entry)) lists (certsAt (map now (now (issuers .entry))) (now (end .entry)) path level)) ⌝ }
+    ensures { λ r. ⌜ r ≡ spend left (belowIn (now (s .entry)) lists (certsAt (now (table .entry)) (map now (now (issuers .entry))) (now (end .entry)) path level)) ⌝ }
 {
     let mut k = level;
     let mut rest = left;
     loop {
-        let one = numbered(s, lists, issuers, end, number_at(path, k), rest);
+        let one = numbered(table, s, lists, issuers, end, number_at(path, k), rest);
         if one.refusal != 0 {
             return one;
         }
@@ -186,6 +204,7 @@ fn below(
 // The name constraints whose content stands between the places, against the certificates from `level` down. What is left over after
 // the lists is noticed last.
 fn constrain(
+    table: &[[usize; 37]],
     s: &[u8],
     from: usize,
     to: usize,
@@ -195,11 +214,11 @@ fn constrain(
     level: usize,
     left: u64,
 ) -> Spent
-    ensures { λ r. ⌜ r ≡ spend left (constraints (now (s .entry)) from to (certsAt (map now (now (issuers .entry))) (now (end .entry)) path level)) ⌝ }
+    ensures { λ r. ⌜ r ≡ spend left (constraintsIn (now (s .entry)) from to (certsAt (now (table .entry)) (map now (now (issuers .entry))) (now (end .entry)) path level)) ⌝ }
 {
     match subtrees_at(s, from, to) {
         Lists::Are(lists) => {
-            let all = below(s, lists, issuers, end, path, level, left);
+            let all = below(table, s, lists, issuers, end, path, level, left);
             if all.refusal != 0 {
                 return all;
             }
@@ -216,16 +235,35 @@ fn constrain(
     }
 }
 
-// The certificate t's own constraints, if it has any, against the certificates from `level` down.
-fn own(t: &[u8], issuers: &[&[u8]], end: &[u8], path: [usize; 7], level: usize, left: u64) -> Spent
-    ensures { λ r. ⌜ r ≡ spend left (own (now (t .entry)) (certsAt (map now (now (issuers .entry))) (now (end .entry)) path level)) ⌝ }
+// The own constraints of the certificate t, of which that much is known, if it has any, against the certificates from `level` down.
+fn own(
+    table: &[[usize; 37]],
+    t: &[u8],
+    reading: Reading,
+    issuers: &[&[u8]],
+    end: &[u8],
+    path: [usize; 7],
+    level: usize,
+    left: u64,
+) -> Spent
+    ensures { λ r. ⌜ r ≡ spend left (ownIn (noted (now (t .entry)) reading) (certsAt (now (table .entry)) (map now (now (issuers .entry))) (now (end .entry)) path level)) ⌝ }
 {
-    match cert::read(t, true) {
+    match reading {
         Reading::Accepted(c) => {
             let known = c.known;
             let held = known.name_constraints;
             if held.known {
-                return constrain(t, held.start, held.end, issuers, end, path, level, left);
+                return constrain(
+                    table,
+                    t,
+                    held.start,
+                    held.end,
+                    issuers,
+                    end,
+                    path,
+                    level,
+                    left,
+                );
             }
             Spent { left, refusal: 0 }
         }
@@ -238,6 +276,7 @@ fn own(t: &[u8], issuers: &[&[u8]], end: &[u8], path: [usize; 7], level: usize, 
 
 // The same of the certificate number i.
 fn issuer(
+    table: &[[usize; 37]],
     issuers: &[&[u8]],
     end: &[u8],
     i: usize,
@@ -245,18 +284,20 @@ fn issuer(
     level: usize,
     left: u64,
 ) -> Spent
-    ensures { λ r. ⌜ r ≡ spend left (own (certAt (map now (now (issuers .entry))) (now (end .entry)) i) (certsAt (map now (now (issuers .entry))) (now (end .entry)) path level)) ⌝ }
+    ensures { λ r. ⌜ r ≡ spend left (ownIn (certAt (now (table .entry)) (map now (now (issuers .entry))) (now (end .entry)) i) (certsAt (now (table .entry)) (map now (now (issuers .entry))) (now (end .entry)) path level)) ⌝ }
 {
     if i < issuers.len() {
         let t = issuers[i];
-        own(t, issuers, end, path, level, left)
-    } else {
-        own(end, issuers, end, path, level, left)
+        let known = table::reading(table, i, t);
+        return own(table, t, known, issuers, end, path, level, left);
     }
+    let known = table::reading(table, issuers.len(), end);
+    own(table, end, known, issuers, end, path, level, left)
 }
 
 // The constraints of the anchor, if it has any, against the certificates from `level` down.
 fn anchored(
+    table: &[[usize; 37]],
     issuers: &[&[u8]],
     end: &[u8],
     path: [usize; 7],
@@ -265,17 +306,29 @@ fn anchored(
     bound: bool,
     left: u64,
 ) -> Spent
-    ensures { λ r. ⌜ r ≡ spend left (anchored (now (anchor .entry)) bound (certsAt (map now (now (issuers .entry))) (now (end .entry)) path level)) ⌝ }
+    ensures { λ r. ⌜ r ≡ spend left (anchoredIn (now (anchor .entry)) bound (certsAt (now (table .entry)) (map now (now (issuers .entry))) (now (end .entry)) path level)) ⌝ }
 {
     if bound {
-        return constrain(anchor, 0, anchor.len(), issuers, end, path, level, left);
+        return constrain(
+            table,
+            anchor,
+            0,
+            anchor.len(),
+            issuers,
+            end,
+            path,
+            level,
+            left,
+        );
     }
     Spent { left, refusal: 0 }
 }
 
 // The name constraints of a path under an anchor, whose own are in `anchor` if it is `bound`. path[0] is the end entity's number and
 // path[depth] that of the highest certificate; a number stands for that intermediate, or from their end on for the end entity.
+// What is known of them is in the table: the intermediates have a row each, in their order, and the end entity has the one after them.
 pub fn path_constraints(
+    table: &[[usize; 37]],
     issuers: &[&[u8]],
     end: &[u8],
     path: [usize; 7],
@@ -284,9 +337,9 @@ pub fn path_constraints(
     bound: bool,
     left: u64,
 ) -> Spent
-    ensures { λ r. ⌜ r ≡ spend left (pathConstraints (now (anchor .entry)) bound (certsAt (map now (now (issuers .entry))) (now (end .entry)) path depth)) ⌝ }
+    ensures { λ r. ⌜ r ≡ spend left (pathConstraintsIn (now (anchor .entry)) bound (certsAt (now (table .entry)) (map now (now (issuers .entry))) (now (end .entry)) path depth)) ⌝ }
 {
-    let first = anchored(issuers, end, path, depth, anchor, bound, left);
+    let first = anchored(table, issuers, end, path, depth, anchor, bound, left);
     if first.refusal != 0 {
         return first;
     }
@@ -295,7 +348,7 @@ pub fn path_constraints(
     while 0 < k {
         let i = number_at(path, k);
         k -= 1;
-        let one = issuer(issuers, end, i, path, k, rest);
+        let one = issuer(table, issuers, end, i, path, k, rest);
         if one.refusal != 0 {
             return one;
         }

@@ -69,7 +69,17 @@ fn check<'a>(
 ) {
     let issuers = [i0, i1, i2, i3, i4, i5];
     let path: [usize; 7] = [6, 0, 1, 2, 3, 4, 5];
-    let spent = constraints::path_constraints(&issuers, end, path, depth, anchor, bound, left);
+    let table: [[usize; 37]; 0] = [];
+    let spent = constraints::path_constraints(
+        &table,
+        &issuers,
+        end,
+        path,
+        depth,
+        anchor,
+        bound,
+        left,
+    );
     said(spent.refusal);
     put(b" ");
     io::print_decimal(1, spent.left);

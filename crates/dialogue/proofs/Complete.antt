@@ -7,7 +7,7 @@ use mathlib.Core.List.{List, _∷_, _++_, append-nil, List·Memᴰ, List·Memᴰ
 use native.Mathlib.Omega.{arith}
 use lib.ListN.{length}
 use Rattle.refusal.specs.Refusals.{unknownIssuer}
-use Rattle.path.specs.Lent.{mostIntermediates}
+use Rattle.lent.specs.Lent.{mostIntermediates}
 use Rattle.path.specs.declared.candidate.Verdict.the-variants.{Anchor}
 use Rattle.dialogue.specs.Model.{Path, Stage, World, Event, try, refused, events, search}
 use Rattle.dialogue.specs.Dialogue.{Turn, Leads, Oracle, Veto, Agrees}

@@ -11,7 +11,7 @@ use Rattle.dialogue.proofs.Rank.{start-or-ranked, not-fatal}
 use Rattle.dialogue.proofs.Sound.{sound, closing}
 use Rattle.dialogue.proofs.Complete.{all-gone, complete}
 use Rattle.dialogue.proofs.Budgets.{few-questions, few-extensions, few-comparisons, used-up, spent-fatal, accounted}
-use Rattle.dialogue.proofs.Work.{few-events, few-tries, few-reads}
+use Rattle.dialogue.proofs.Work.{few-events, few-tries, few-lookups, few-looks}
 
 module _ (W : World) (end s b n : ℕ) (turns : List Turn) (r : Outcome) (h : Leads (search W end s b n) turns r) where
   ends : (q : Outcome) → r ≡ q → Leads (search W end s b n) turns q
@@ -36,5 +36,6 @@ module _ (W : World) (end s b n : ℕ) (turns : List Turn) (r : Outcome) (h : Le
     comparisons = few-comparisons W end s b n turns r h;
     moves = few-events W end s b n turns r h;
     tries = few-tries W end s b n turns r h;
-    reads = few-reads W end s b n turns r h;
+    lookups = few-lookups W end s b n turns r h;
+    looks = few-looks W end s b n turns r h;
   }

@@ -7,7 +7,7 @@ use native.Mathlib.Omega.{arith}
 use native.Mathlib.Nat.{eq-or-lt-of-le}
 use lib.ListN.{length}
 use Rattle.refusal.specs.Refusals.{maximumPathDepthExceeded}
-use Rattle.path.specs.Lent.{mostIntermediates}
+use Rattle.lent.specs.Lent.{mostIntermediates}
 use Rattle.path.specs.declared.candidate.Verdict.{Verdict}
 use Rattle.path.specs.declared.candidate.Verdict.the-variants.{Pass, Anchor, Extend}
 use Rattle.dialogue.specs.Model.{Path, World, Event, note, extension, try, leave, one, each, node, enter, events}

@@ -7,7 +7,7 @@ use lib.Dec.{ltb}
 use Rattle.refusal.specs.Refusals.{unknownIssuer, maximumPathDepthExceeded, maximumNameConstraintComparisonsExceeded}
 use Rattle.refusal.specs.Model.{worseOf}
 use Rattle.refusal.proofs.Laws.{worse-assoc, worse-keeps}
-use Rattle.path.specs.Lent.{mostIntermediates}
+use Rattle.lent.specs.Lent.{mostIntermediates}
 use Rattle.path.specs.declared.candidate.Verdict.{Verdict}
 use Rattle.path.specs.declared.candidate.Verdict.the-variants.{Pass, Anchor, Extend}
 use Rattle.dialogue.specs.Model.{Path, Stage, question, finding, World, Event, try, leave, refused, spent, Tree, done, ask, offer, unless, through, conclude, run, one, each, node, enter, events, search}

@@ -7,14 +7,14 @@ use native.Mathlib.Omega.{arith}
 use native.Mathlib.Nat.{mul-suc}
 use lib.ListN.{length, take}
 use lib.Dec.{ltb}
-use borrow.Author.Tests.{ltb-true, lt-ltb}
+use borrow.Author.Tests.{ltb-true, ltb-false, lt-ltb}
 use Rattle.refusal.specs.Refusals.{maximumPathDepthExceeded}
-use Rattle.path.specs.Lent.{mostIntermediates}
+use Rattle.lent.specs.Lent.{mostIntermediates}
 use Rattle.path.specs.declared.candidate.Verdict.{Verdict}
 use Rattle.path.specs.declared.candidate.Verdict.the-variants.{Pass, Anchor, Extend}
 use Rattle.dialogue.specs.Model.{Path, World, Event, note, extension, try, leave, Outcome, one, each, node, enter, events, search}
 use Rattle.dialogue.specs.Dialogue.{Turn, Leads}
-use Rattle.dialogue.specs.Work.{weight, paid, aTry, reads}
+use Rattle.dialogue.specs.Work.{weight, paid, aTry, lookups, looks}
 use Rattle.dialogue.specs.Account.{noted, extended, left, declined, Gone, nothing, more}
 use Rattle.dialogue.proofs.Budgets.{accounted}
 
@@ -116,21 +116,28 @@ total-below anchors (suc count) i = by (ltb i anchors) refl (total-below anchors
     by true e r = omega (arith, ltb-true i anchors e)
     by false e r = omega arith
 
--- 35 for an anchor, 10 for an intermediate
-total-reads : (anchors count i : ℕ) → total (λ j. cond (ltb j anchors) 35 10) count i ≤ 10 * count + 25 * (anchors - i)
-unfolding total
-total-reads anchors zero i = omega arith
-total-reads anchors (suc count) i = by (ltb i anchors) refl (total-reads anchors count (suc i))
-  where
-    by : (t : Bool) → ltb i anchors ≡ t → total (λ j. cond (ltb j anchors) 35 10) count (suc i) ≤ 10 * count + 25 * (anchors - suc i)
-        → cond t 35 10 + total (λ j. cond (ltb j anchors) 35 10) count (suc i) ≤ 10 * suc count + 25 * (anchors - i)
-    by true e r = omega (arith, ltb-true i anchors e)
-    by false e r = omega arith
+-- a share of u for each candidate, and v more for an anchor
+abbrev shareOf : ℕ → ℕ → ℕ → ℕ → ℕ
+shareOf u v anchors j = cond (ltb j anchors) (u + v) u
 
-share-least : (anchors i n : ℕ) → n ≤ 10 → n ≤ cond (ltb i anchors) 35 10
-share-least anchors i n h = by (ltb i anchors)
+total-shares : (u v anchors count i : ℕ) → total (shareOf u v anchors) count i ≤ u * count + v * (anchors - i)
+unfolding total
+total-shares u v anchors zero i = omega arith
+total-shares u v anchors (suc count) i = by (ltb i anchors) refl (total-shares u v anchors count (suc i))
   where
-    by : (t : Bool) → n ≤ cond t 35 10
+    by : (t : Bool) → ltb i anchors ≡ t → total (shareOf u v anchors) count (suc i) ≤ u * count + v * (anchors - suc i)
+        → cond t (u + v) u + total (shareOf u v anchors) count (suc i) ≤ u * suc count + v * (anchors - i)
+    by true e r =
+        let q : anchors - i ≡ suc (anchors - suc i) = omega (arith, ltb-true i anchors e) in
+        rw q (omega (arith, r, mul-suc u count, mul-suc v (anchors - suc i)))
+    by false e r =
+        let q : anchors - suc i ≡ anchors - i = omega (arith, ltb-false i anchors e) in
+        omega (arith, rw q at r, mul-suc u count)
+
+share-least : (u v anchors i n : ℕ) → n ≤ u → n ≤ shareOf u v anchors i
+share-least u v anchors i n h = by (ltb i anchors)
+  where
+    by : (t : Bool) → n ≤ cond t (u + v) u
     by true = omega (arith, h)
     by false = h
 
@@ -163,15 +170,27 @@ module _ (W : World) (end s b n : ℕ) (turns : List Turn) (r : Outcome) (h : Le
         whole = omega (arith, total-below anchors (W .candidates) 0);
       })
 
-  -- certificates read
-  pub few-reads : (anchors : ℕ) → ((path : Path) (i : ℕ) → W .verdict path i ≡ Anchor → i < anchors)
-      → weight reads gone + weight reads last ≤ (10 * suc (W .candidates) + 25 * anchors) * suc b
-  unfolding reads
-  few-reads anchors below =
-      run-weight reads (λ j. cond (ltb j anchors) 35 10) (10 * suc (W .candidates) + 25 * anchors) (record {
-        passes = λ i x. share-least anchors i 9 (omega arith);
-        tries = λ i p e. rw (lt-ltb i anchors (below p i e)) (omega arith);
-        extends = λ i. share-least anchors i 10 (omega arith);
-        noted = λ x. omega arith;
-        whole = omega (arith, total-reads anchors (W .candidates) 0);
+  -- whatever weighs at most u, and v more at an anchor
+  few : (w : Event → ℕ) (u v : ℕ) → ((x : ℕ) → w (note x) ≤ u) → w extension ≤ u → w leave ≤ u → ((k : ℕ) (p : Path) → w (try k p) ≤ u + v)
+      → (anchors : ℕ) → ((path : Path) (i : ℕ) → W .verdict path i ≡ Anchor → i < anchors)
+      → weight w gone + weight w last ≤ (u * suc (W .candidates) + v * anchors) * suc b
+  few w u v passed grown ended tried anchors below =
+      run-weight w (shareOf u v anchors) (u * suc (W .candidates) + v * anchors) (record {
+        passes = λ i x. share-least u v anchors i _ (passed x);
+        tries = λ i p e. rw (lt-ltb i anchors (below p i e)) (tried i p);
+        extends = λ i. share-least u v anchors i _ grown;
+        noted = λ x. omega (arith, passed x, mul-suc u (W .candidates));
+        whole = let q : anchors - 0 ≡ anchors = omega arith in omega (arith, rw q at (total-shares u v anchors (W .candidates) 0), ended, mul-suc u (W .candidates));
       })
+
+  -- certificates looked up
+  pub few-lookups : (anchors : ℕ) → ((path : Path) (i : ℕ) → W .verdict path i ≡ Anchor → i < anchors)
+      → weight lookups gone + weight lookups last ≤ (10 * suc (W .candidates) + 25 * anchors) * suc b
+  unfolding lookups
+  few-lookups = few lookups 10 25 (λ x. omega arith) (omega arith) (omega arith) (λ k p. omega arith)
+
+  -- bytes looked at
+  pub few-looks : (l d anchors : ℕ) → ((path : Path) (i : ℕ) → W .verdict path i ≡ Anchor → i < anchors)
+      → weight (looks l d) gone + weight (looks l d) last ≤ ((36 + 2 * d) * l * suc (W .candidates) + l * anchors) * suc b
+  unfolding looks
+  few-looks l d = few (looks l d) ((36 + 2 * d) * l) l (λ x. omega arith) (omega arith) (omega arith) (λ k p. omega arith)

@@ -115,7 +115,7 @@ pub record Reached (W : World) (end : ℕ) (at : Event) (turns : List Turn) (ext
   pub noted : List ℕ
   pub gone : Gone W before turns noted extensions comparisons
 
--- a budget is used up: its refusal, and that one more use was wanted where exactly as many as allowed had been made
+-- a budget is used up: its refusal, and that one more use was wanted where exactly as many as allowed had been made; of comparisons, that a path takes more than were left
 pub data UsedUp (W : World) (end s b n : ℕ) (turns : List Turn) (x : ℕ) : Type 0 where
   signatures : (first last : List Turn) (d m anchor : ℕ) (path : Path) (key what : ℕ) (rest : List Stage) → x ≡ maximumSignatureChecksExceeded
       → Reached W end (try anchor path) first d m → turns ≡ first ++ last → Cleared W (W .stages anchor path) last (question key what ∷ rest)

@@ -10,7 +10,7 @@ use Rattle.path.specs.declared.candidate.Verdict.the-variants.{Anchor}
 use Rattle.dialogue.specs.Model.{Path, World, Outcome, accepted, refused, spent, events}
 use Rattle.dialogue.specs.Dialogue.{Turn, asked, Oracle, Veto, Agrees}
 use Rattle.dialogue.specs.Account.{Account, ownCost, Closing, Exhausted, UsedUp}
-use Rattle.dialogue.specs.Work.{weight, aTry, reads as readsAt}
+use Rattle.dialogue.specs.Work.{weight, aTry, lookups as lookupsAt, looks as looksAt}
 use Rattle.dialogue.specs.Acceptable.{Acceptable, Given, GivenContent, By, ByContent}
 
 pub record Decided (W : World) (end s b n : ℕ) (turns : List Turn) (r : Outcome) : Type 0 where
@@ -34,5 +34,8 @@ pub record Decided (W : World) (end s b n : ℕ) (turns : List Turn) (r : Outcom
   pub moves : length (account .before) + length (take 1 (account .after)) ≤ suc (W .candidates) * suc b
   -- anchors tried, where only the first candidates are anchors
   pub tries : (anchors : ℕ) → ((path : Path) (i : ℕ) → W .verdict path i ≡ Anchor → i < anchors) → weight aTry (account .before) + weight aTry (take 1 (account .after)) ≤ anchors * suc b
-  pub reads : (anchors : ℕ) → ((path : Path) (i : ℕ) → W .verdict path i ≡ Anchor → i < anchors)
-      → weight readsAt (account .before) + weight readsAt (take 1 (account .after)) ≤ (10 * suc (W .candidates) + 25 * anchors) * suc b
+  -- certificates looked up, and bytes looked at
+  pub lookups : (anchors : ℕ) → ((path : Path) (i : ℕ) → W .verdict path i ≡ Anchor → i < anchors)
+      → weight lookupsAt (account .before) + weight lookupsAt (take 1 (account .after)) ≤ (10 * suc (W .candidates) + 25 * anchors) * suc b
+  pub looks : (l d anchors : ℕ) → ((path : Path) (i : ℕ) → W .verdict path i ≡ Anchor → i < anchors)
+      → weight (looksAt l d) (account .before) + weight (looksAt l d) (take 1 (account .after)) ≤ ((36 + 2 * d) * l * suc (W .candidates) + l * anchors) * suc b

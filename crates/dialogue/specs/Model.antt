@@ -8,7 +8,7 @@ use mathlib.Core.List.{List, [], _∷_, _++_}
 use lib.Dec.{ltb}
 use Rattle.refusal.specs.Refusals.{unknownIssuer, maximumPathDepthExceeded, maximumSignatureChecksExceeded, maximumPathBuildCallsExceeded, maximumNameConstraintComparisonsExceeded}
 use Rattle.refusal.specs.Model.{worseOf}
-use Rattle.path.specs.Lent.{mostIntermediates}
+use Rattle.lent.specs.Lent.{mostIntermediates}
 use Rattle.path.specs.declared.candidate.Verdict.{Verdict}
 use Rattle.path.specs.declared.candidate.Verdict.the-variants.{Pass, Anchor, Extend}
 

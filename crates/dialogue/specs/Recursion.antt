@@ -5,7 +5,7 @@ use Prim.Native.Nat.{ℕ, zero, suc}
 use mathlib.Core.List.{[], _∷_}
 use Rattle.refusal.specs.Refusals.{unknownIssuer, maximumPathDepthExceeded, maximumPathBuildCallsExceeded}
 use Rattle.refusal.specs.Model.{worseOf}
-use Rattle.path.specs.Lent.{mostIntermediates}
+use Rattle.lent.specs.Lent.{mostIntermediates}
 use Rattle.path.specs.declared.candidate.Verdict.{Verdict}
 use Rattle.path.specs.declared.candidate.Verdict.the-variants.{Pass, Anchor, Extend}
 use Rattle.dialogue.specs.Model.{Path, World, refused, spent, Tree, done, unless, through, conclude}

@@ -5,37 +5,73 @@ use mathlib.Core.Bool.{Bool, true, false, cond}
 use mathlib.Core.List.{List, [], _∷_, _++_, map}
 use native.Mathlib.Omega.{arith}
 use lib.Dec.{ltb, eqb}
-use lib.ListN.{length, getD, take, length-map}
+use lib.ListN.{length, getD, take, length-map, List·getD-eq-default}
 use denote.Ref.{RefT, now}
 use borrow.Author.Tests.{le-ltb, ltb-true, ltb-false, ne-eqb}
 use Rattle.refusal.specs.Refusals.{maximumPathDepthExceeded}
 use Rattle.cert.specs.declared.Certificate.{Certificate}
+use Rattle.cert.specs.declared.Reading.{Reading}
 use Rattle.cert.specs.declared.Reading.the-variants.{Accepted, Refused as NoCertificate}
 use Rattle.cert.specs.Model.{readCertificate}
 use Rattle.der.specs.declared.Span.{Span}
 use Rattle.cert.specs.declared.key.Key.{Key}
 use Rattle.cert.specs.declared.key.Key.the-variants.{Parts, Refused as NoKey}
-use Rattle.path.specs.declared.asked.Question.{Question}
-use Rattle.path.specs.declared.asked.Question.the-variants.{Of}
-use Rattle.path.specs.Model.{onReading, questionOf}
-use Rattle.path.specs.Lent.{pre}
+use Rattle.asked.specs.declared.Question.{Question}
+use Rattle.asked.specs.declared.Question.the-variants.{Of}
+use Rattle.asked.specs.Model.{questionIn, questionOf}
+use Rattle.path.specs.Model.{onReading}
+use Rattle.table.specs.Model.{readingIn, Held}
+use Rattle.table.proofs.Laws.{held-reading}
+use Rattle.lent.specs.Lent.{readingsIn, pre}
+use Rattle.lent.proofs.Laws.{held-readings}
 use Rattle.dialogue.specs.Model.{World, Outcome, accepted, refused, spent, Tree, done, ask, offer, unless}
 use Rattle.dialogue.specs.Dialogue.{give, follow}
-use Rattle.search.specs.declared.Numbers.{Numbers}
-use Rattle.search.specs.declared.State.{State}
-use Rattle.search.specs.declared.Phase.{Phase}
-use Rattle.search.specs.declared.Phase.the-variants.{Walk, Ask, Offer, Found, Refused, Spent}
-use Rattle.search.specs.Machine.{phaseTree, treeOf, keyAt, whatAt, effort, Stands, Ran, Halted, begun, Started}
-use Rattle.search.specs.World.{worldOf}
-use Rattle.search.proofs.Whole.{ran-bound}
+use Rattle.machine.specs.declared.Numbers.{Numbers}
+use Rattle.machine.specs.declared.State.{State}
+use Rattle.machine.specs.declared.Phase.{Phase}
+use Rattle.machine.specs.declared.Phase.the-variants.{Walk, Ask, Offer, Found, Refused, Spent}
+use Rattle.machine.specs.Machine.{phaseTree, treeOf, keyAt, whatAt, effort, Stands, Ran, Halted, begun, Started}
+use Rattle.machine.specs.World.{worldOf, worldIn}
+use Rattle.machine.proofs.Lent.{world-held}
+use Rattle.machine.proofs.Whole.{ran-bound}
 use Rattle.dialogue.proofs.Answers.{follow-more}
 use Rattle.conditions.specs.Request.{Request, Budgets}
 use Rattle.conditions.specs.Model.{nameOf, named, closed, worldFor, endOf, searchOf, decision}
 use Rattle.judge.specs.declared.Asked.{Asked}
 use Rattle.steps.specs.declared.Step.{Step}
-use Rattle.steps.specs.Model.{phaseOf, numberOf, refusalOf, stateOf, stepOf, isFound, shownAs, endedStep}
+use Rattle.steps.specs.Model.{phaseOf, numberOf, refusalOf, stateOf, stepOf, nameBy, isFound, shownAs, endedStep}
 use Rattle.judge.specs.Steps.{treeFrom, At, unread, ran, Run}
 use Rattle.judge.specs.Places.{nowhere, filledOf, askedOf}
+
+-- ---- a table that is held
+module _ (T I : List (List ℕ)) (E : List ℕ) (h : Held T I E) where
+  -- what it says of the end entity
+  pub end-held : (n : ℕ) → n ≡ length I → readingIn T n E ≡ readCertificate E true
+  end-held n q =
+      let past : getD I n E ≡ E = List·getD-eq-default I E {n = n} (omega (arith, q)) in
+      rw past at (held-reading T I E h n (omega (arith, q)))
+
+  pub shown-held : (n : ℕ) → n ≡ length I → (kind : ℕ) (name : List ℕ) (s : State) (r : Step) → r ≡ shownAs (nameBy (readingIn T n E) E kind name) s (s .phase) → r ≡ shownAs (nameOf E kind name) s (s .phase)
+  unfolding nameBy nameOf
+  shown-held n q kind name s r e = e ∙ ap (λ (g : Reading). shownAs (nameBy g E kind name) s (s .phase)) (end-held n q)
+
+  -- what holds of the world that the machine sees holds of the bytes' own
+  on-bytes {ℓ} : (P : World → Type ℓ) (S K C : List (List ℕ)) (B : List ℕ) (D : List (List ℕ)) (t : ℕ) (w : List ℕ) (m : Bool) (n : ℕ) → n ≡ length S → P (worldIn (readingsIn T I E n) I E S K C B D t w m) → P (worldOf I E S K C B D t w m)
+  on-bytes P S K C B D t w m n q p = subst P (world-held T I E S K C B D t w m n q h) p
+
+  module _ (S K C : List (List ℕ)) (B : List ℕ) (D : List (List ℕ)) (t : ℕ) (w : List ℕ) (m : Bool) (n : ℕ) (q : n ≡ length S) where
+    pub started-held : (k sg ex cm : ℕ) (s : State) → Started (worldIn (readingsIn T I E n) I E S K C B D t w m) k sg ex cm s → Started (worldOf I E S K C B D t w m) k sg ex cm s
+    started-held k sg ex cm s = on-bytes (λ W. Started W k sg ex cm s) S K C B D t w m n q
+
+    pub halted-held : (u s : State) (a : ℕ)
+        → (u .depth < 7 → (u .phase ≡ Walk → ⊥) → Halted (worldIn (readingsIn T I E n) I E S K C B D t w m) u s (a ∷ []) (give (treeOf (worldIn (readingsIn T I E n) I E S K C B D t w m) u) a) (effort (worldIn (readingsIn T I E n) I E S K C B D t w m) u))
+        → u .depth < 7 → (u .phase ≡ Walk → ⊥) → Halted (worldOf I E S K C B D t w m) u s (a ∷ []) (give (treeOf (worldOf I E S K C B D t w m) u) a) (effort (worldOf I E S K C B D t w m) u)
+    halted-held u s a = on-bytes (λ W. u .depth < 7 → (u .phase ≡ Walk → ⊥) → Halted W u s (a ∷ []) (give (treeOf W u) a) (effort W u)) S K C B D t w m n q
+
+-- what is said of a name, by what is read of the end entity
+pub name-read : (end : List ℕ) (kind : ℕ) (name : List ℕ) (r : Reading) (x : ℕ) → r ≡ readCertificate end true → x ≡ nameBy r end kind name → x ≡ nameOf end kind name
+unfolding nameBy nameOf
+name-read end kind name r x q e = e ∙ ap (λ (g : Reading). nameBy g end kind name) q
 
 -- as many are lent as there are references
 pub counted : (S I : List (RefT (List ℕ))) → length S + length I ≡ length (map now S) + length (map now I)
@@ -231,9 +267,9 @@ module _ (key what : ℕ) (q : Question) (signed algorithm signature own bits : 
   unfolding askedOf
   asked-unopened p a b h = h ∙ sym (ap (askedOf key what) (a ∙ ap (Of signed algorithm signature) b))
 
-pub question-told : (I : List (List ℕ)) (E : List ℕ) (K : List (List ℕ)) (n : ℕ) (t : Step) (u : State) (q : Numbers) (w : Question) (r : Asked)
-    → u ≡ stateOf t → q ≡ record { key = keyAt u; certificate = whatAt u } → w ≡ questionOf I E K n (q .key) (q .certificate) → r ≡ askedOf (q .key) (q .certificate) w
-    → r ≡ askedOf (keyAt (stateOf t)) (whatAt (stateOf t)) (questionOf I E K n (keyAt (stateOf t)) (whatAt (stateOf t)))
-question-told I E K n t u q w r a b c d =
-    d ∙ ap (askedOf (q .key) (q .certificate)) c
+pub question-told : (T I : List (List ℕ)) (E : List ℕ) (K : List (List ℕ)) (n : ℕ) (t : Step) (u : State) (q : Numbers) (w : Question) (r : Asked)
+    → u ≡ stateOf t → q ≡ record { key = keyAt u; certificate = whatAt u } → w ≡ questionIn (readingsIn T I E n) I E K n (q .key) (q .certificate) → r ≡ askedOf (q .key) (q .certificate) w
+    → Held T I E → r ≡ askedOf (keyAt (stateOf t)) (whatAt (stateOf t)) (questionOf I E K n (keyAt (stateOf t)) (whatAt (stateOf t)))
+question-told T I E K n t u q w r a b c d h =
+    d ∙ ap (askedOf (q .key) (q .certificate)) (c ∙ ap (λ (g : ℕ → Reading). questionIn g I E K n (q .key) (q .certificate)) (held-readings T I E n h))
     ∙ ap (λ (m : Numbers). askedOf (m .key) (m .certificate) (questionOf I E K n (m .key) (m .certificate))) (b ∙ ap numbersOf a)

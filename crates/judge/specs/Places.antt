@@ -7,8 +7,8 @@ use Rattle.cert.specs.declared.Anchored.the-variants.{Anchor, Refused as NoAnch
 use Rattle.cert.specs.declared.Reading.{Reading}
 use Rattle.cert.specs.declared.Reading.the-variants.{Accepted, Refused as NoCertificate}
 use Rattle.cert.specs.declared.key.Key.the-variants.{Parts, Refused as NoKey}
-use Rattle.path.specs.declared.asked.Question.{Question}
-use Rattle.path.specs.declared.asked.Question.the-variants.{Of, Refused as NoQuestion}
+use Rattle.asked.specs.declared.Question.{Question}
+use Rattle.asked.specs.declared.Question.the-variants.{Of, Refused as NoQuestion}
 use Rattle.judge.specs.declared.Asked.{Asked}
 use Rattle.judge.specs.declared.Trusted.{Trusted}
 

@@ -6,12 +6,12 @@ use mathlib.Core.List.{List}
 use lib.Dec.{eqb}
 use Rattle.cert.specs.declared.Reading.the-variants.{Refused as NoCertificate}
 use Rattle.cert.specs.Model.{readCertificate}
-use Rattle.path.specs.Lent.{pre}
+use Rattle.lent.specs.Lent.{pre}
 use Rattle.dialogue.specs.Model.{accepted, refused, spent, Tree, done, ask, offer}
-use Rattle.search.specs.declared.State.{State}
-use Rattle.search.specs.declared.Phase.{Phase}
+use Rattle.machine.specs.declared.State.{State}
+use Rattle.machine.specs.declared.Phase.{Phase}
 use Rattle.dialogue.specs.Dialogue.{follow}
-use Rattle.search.specs.Machine.{treeOf, keyAt, whatAt, Ran, begun}
+use Rattle.machine.specs.Machine.{treeOf, keyAt, whatAt, Ran, begun}
 use Rattle.conditions.specs.Request.{Request, Budgets}
 use Rattle.conditions.specs.Model.{nameOf, closed, worldFor, endOf, decision}
 use Rattle.steps.specs.declared.Step.{Step}

@@ -6,7 +6,7 @@ use mathlib.Core.Bool.{true, false}
 use mathlib.Core.List.{List}
 use Rattle.refusal.specs.Refusals.{isFatal}
 use Rattle.constraints.specs.Rfc5280Names.{Others}
-use Rattle.path.specs.Lent.{pre}
+use Rattle.lent.specs.Lent.{pre}
 use Rattle.dialogue.specs.Model.{Path}
 use Rattle.dialogue.specs.Dialogue.{Turn, talk, asked, Oracle, Veto, Agrees}
 use Rattle.dialogue.specs.Account.{UsedUp}

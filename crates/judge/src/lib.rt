@@ -1,18 +1,21 @@
 // The decision as its callers see it. A request is begun; each step is a question, an offer or the end; an answer gives the next step.
 // Exported to C: include/pathjudge.h.
+// A search lends a table of rows: what is read of each certificate when it begins is looked up there from then on, and read again where there is no
+// row for it. What the later functions promise is for the table as the first left it.
+use asked::Question;
 use cert::Anchored;
 use cert::Reading;
 use cert::key::Key;
 use der::Span;
-use path::asked::Question;
 use steps::Step;
 ghost use mathlib.Core.Path.{_≡_};
 ghost use mathlib.Core.List.{map};
 ghost use mathlib.Core.Bool.{true, cond};
 ghost use Rattle.cert.specs.Model.{readCertificate, readAnchor};
-ghost use Rattle.path.specs.Model.{questionOf};
+ghost use Rattle.table.specs.Model.{Held};
+ghost use Rattle.asked.specs.Model.{questionOf};
 ghost use Rattle.dialogue.specs.Dialogue.{give};
-ghost use Rattle.search.specs.Machine.{keyAt, whatAt};
+ghost use Rattle.machine.specs.Machine.{keyAt, whatAt};
 ghost use Rattle.conditions.specs.Model.{nameOf, decision};
 ghost use Rattle.judge.specs.Steps.{requestOf, budgetsOf, treeFrom, At, Run};
 ghost use Rattle.steps.specs.Model.{stateOf};
@@ -52,7 +55,7 @@ pub struct Trusted {
 }
 
 // Begins a search. `purpose` is an object identifier's content; `demanded`, if not 0, says that a certificate must list it. `kind` and
-// `name`: the name that the end entity must be good for, if any.
+// `name`: the name that the end entity must be good for, if any. The table is filled: a row for each intermediate, and one for the end entity.
 #[no_mangle]
 pub extern "C" fn pathjudge_begin<'a>(
     issuers: &'a [&'a [u8]],
@@ -70,12 +73,16 @@ pub extern "C" fn pathjudge_begin<'a>(
     signatures: u64,
     extensions: u64,
     comparisons: u64,
+    table: &'a mut [[usize; 37]],
 ) -> Step
-    ensures { λ r. ⌜ At (requestOf (map now (now (issuers .entry))) (now (end .entry)) (map now (now (subjects .entry))) (map now (now (keys .entry))) (map now (now (constraints .entry))) (now (bound .entry)) (map now (now (distrusted .entry))) time (now (purpose .entry)) demanded kind (now (name .entry))) (decision (requestOf (map now (now (issuers .entry))) (now (end .entry)) (map now (now (subjects .entry))) (map now (now (keys .entry))) (map now (now (constraints .entry))) (now (bound .entry)) (map now (now (distrusted .entry))) time (now (purpose .entry)) demanded kind (now (name .entry))) (budgetsOf signatures extensions comparisons)) r ⌝ }
+    ensures { λ r. ⌜ Held (now (table .exit)) (map now (now (issuers .entry))) (now (end .entry)) × At (requestOf (map now (now (issuers .entry))) (now (end .entry)) (map now (now (subjects .entry))) (map now (now (keys .entry))) (map now (now (constraints .entry))) (now (bound .entry)) (map now (now (distrusted .entry))) time (now (purpose .entry)) demanded kind (now (name .entry))) (decision (requestOf (map now (now (issuers .entry))) (now (end .entry)) (map now (now (subjects .entry))) (map now (now (keys .entry))) (map now (now (constraints .entry))) (now (bound .entry)) (map now (now (distrusted .entry))) time (now (purpose .entry)) demanded kind (now (name .entry))) (budgetsOf signatures extensions comparisons)) r ⌝ }
 {
-    match cert::read(end, true) {
+    table::fill(table, issuers, end);
+    let i = issuers.len();
+    match table::reading(table, i, end) {
         Reading::Accepted(_) => {
             let s = search::start(
+                table,
                 issuers,
                 end,
                 subjects,
@@ -90,7 +97,7 @@ pub extern "C" fn pathjudge_begin<'a>(
                 extensions,
                 comparisons,
             );
-            steps::shown(end, kind, name, s)
+            steps::shown(table, i, end, kind, name, s)
         }
         Reading::Refused(e) => steps::ended(e, signatures, extensions, comparisons),
     }
@@ -112,12 +119,14 @@ pub extern "C" fn pathjudge_answer<'a>(
     demanded: u8,
     kind: u8,
     name: &'a [u8],
+    table: &'a [[usize; 37]],
     step: Step,
     answer: u16,
 ) -> Step
-    ensures { λ r. ⌜ At (requestOf (map now (now (issuers .entry))) (now (end .entry)) (map now (now (subjects .entry))) (map now (now (keys .entry))) (map now (now (constraints .entry))) (now (bound .entry)) (map now (now (distrusted .entry))) time (now (purpose .entry)) demanded kind (now (name .entry))) (give (treeFrom (requestOf (map now (now (issuers .entry))) (now (end .entry)) (map now (now (subjects .entry))) (map now (now (keys .entry))) (map now (now (constraints .entry))) (now (bound .entry)) (map now (now (distrusted .entry))) time (now (purpose .entry)) demanded kind (now (name .entry))) step) answer) r ⌝ }
+    ensures { λ r. ⌜ (Held (now (table .entry)) (map now (now (issuers .entry))) (now (end .entry)) → At (requestOf (map now (now (issuers .entry))) (now (end .entry)) (map now (now (subjects .entry))) (map now (now (keys .entry))) (map now (now (constraints .entry))) (now (bound .entry)) (map now (now (distrusted .entry))) time (now (purpose .entry)) demanded kind (now (name .entry))) (give (treeFrom (requestOf (map now (now (issuers .entry))) (now (end .entry)) (map now (now (subjects .entry))) (map now (now (keys .entry))) (map now (now (constraints .entry))) (now (bound .entry)) (map now (now (distrusted .entry))) time (now (purpose .entry)) demanded kind (now (name .entry))) step) answer) r) ⌝ }
 {
     let s = search::answer(
+        table,
         issuers,
         end,
         subjects,
@@ -131,7 +140,7 @@ pub extern "C" fn pathjudge_answer<'a>(
         steps::state_of(step),
         answer,
     );
-    steps::shown(end, kind, name, s)
+    steps::shown(table, issuers.len(), end, kind, name, s)
 }
 
 // A whole run: the step that the answers, one after the other, lead to.
@@ -152,13 +161,17 @@ pub extern "C" fn pathjudge_judge<'a>(
     signatures: u64,
     extensions: u64,
     comparisons: u64,
+    table: &'a mut [[usize; 37]],
     answers: &'a [u16],
 ) -> Step
     ensures { λ r. ⌜ Run (requestOf (map now (now (issuers .entry))) (now (end .entry)) (map now (now (subjects .entry))) (map now (now (keys .entry))) (map now (now (constraints .entry))) (now (bound .entry)) (map now (now (distrusted .entry))) time (now (purpose .entry)) demanded kind (now (name .entry))) (budgetsOf signatures extensions comparisons) (now (answers .entry)) r ⌝ }
 {
-    match cert::read(end, true) {
+    table::fill(table, issuers, end);
+    let count = issuers.len();
+    match table::reading(table, count, end) {
         Reading::Accepted(_) => {
             let mut s = search::start(
+                table,
                 issuers,
                 end,
                 subjects,
@@ -176,6 +189,7 @@ pub extern "C" fn pathjudge_judge<'a>(
             let mut i: usize = 0;
             while i < answers.len() {
                 s = search::answer(
+                    table,
                     issuers,
                     end,
                     subjects,
@@ -191,7 +205,7 @@ pub extern "C" fn pathjudge_judge<'a>(
                 );
                 i += 1;
             }
-            steps::shown(end, kind, name, s)
+            steps::shown(table, count, end, kind, name, s)
         }
         Reading::Refused(e) => steps::ended(e, signatures, extensions, comparisons),
     }
@@ -204,15 +218,16 @@ pub extern "C" fn pathjudge_question<'a>(
     end: &'a [u8],
     keys: &'a [&'a [u8]],
     anchors: usize,
+    table: &'a [[usize; 37]],
     step: Step,
 ) -> Asked
-    ensures { λ r. ⌜ r ≡ askedOf (keyAt (stateOf step)) (whatAt (stateOf step)) (questionOf (map now (now (issuers .entry))) (now (end .entry)) (map now (now (keys .entry))) anchors (keyAt (stateOf step)) (whatAt (stateOf step))) ⌝ }
+    ensures { λ r. ⌜ (Held (now (table .entry)) (map now (now (issuers .entry))) (now (end .entry)) → r ≡ askedOf (keyAt (stateOf step)) (whatAt (stateOf step)) (questionOf (map now (now (issuers .entry))) (now (end .entry)) (map now (now (keys .entry))) anchors (keyAt (stateOf step)) (whatAt (stateOf step)))) ⌝ }
 {
-    let numbers = search::asked(steps::state_of(step));
+    let numbers = machine::asked(steps::state_of(step));
     let key = numbers.key;
     let certificate = numbers.certificate;
     let nowhere = Span { start: 0, end: 0 };
-    match path::asked::question_of(issuers, end, keys, anchors, key, certificate) {
+    match asked::question_of(table, issuers, end, keys, anchors, key, certificate) {
         Question::Of {
             signed,
             algorithm,
@@ -348,5 +363,5 @@ pub extern "C" fn pathjudge_anchor(certificate: &[u8]) -> Trusted
 pub extern "C" fn pathjudge_name(end: &[u8], kind: u8, name: &[u8]) -> u16
     ensures { λ r. ⌜ r ≡ nameOf (now (end .entry)) kind (now (name .entry)) ⌝ }
 {
-    steps::name::refusal_for(end, kind, name)
+    steps::name::refusal_for(cert::read(end, true), end, kind, name)
 }

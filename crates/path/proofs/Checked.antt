@@ -15,18 +15,20 @@ use Rattle.cert.specs.declared.Certificate.{Certificate}
 use Rattle.cert.specs.declared.Reading.{Reading}
 use Rattle.cert.specs.declared.Reading.the-variants.{Accepted, Refused as NoCertificate}
 use Rattle.cert.specs.Model.{readCertificate}
-use Rattle.cert.proofs.Value.{part-whole}
+use Rattle.extensions.proofs.Value.{part-whole}
 use Rattle.cert.proofs.Laws.{read-inside}
 use Rattle.cert.proofs.Refusals.{ReadingFair, reading-not, read-fair}
-use Rattle.path.specs.Conditions.{Contents, Trusted, Role, Fit, roleOf}
-use Rattle.path.proofs.Contents.{contentsOf}
-use Rattle.path.specs.Skeletons.{IsCertificate}
-use Rattle.path.specs.Lent.{certificateOf, newest}
-use Rattle.path.specs.Model.{listed, depthOf, onReading, itself, ownOf, checked, checkOn}
-use Rattle.path.proofs.Skeletons.{reads-certificate, certificate-reads}
-use Rattle.path.proofs.Valid.{valid-sound, valid-complete}
-use Rattle.path.proofs.Roles.{first-zero, zero-first, isIssuer, belowOf, role-sound, role-complete}
-use Rattle.path.proofs.Purposes.{purposes-sound, purposes-complete}
+use Rattle.checks.specs.Conditions.{Contents, Role}
+use Rattle.path.specs.Conditions.{Trusted, Fit, roleOf}
+use Rattle.checks.proofs.Contents.{contentsOf}
+use Rattle.checks.specs.Skeletons.{IsCertificate}
+use Rattle.lent.specs.Lent.{certificateOf, newest}
+use Rattle.lent.specs.Lent.{listed}
+use Rattle.path.specs.Model.{depthOf, onReading, checked, checkOn, checkIn, checkedAs}
+use Rattle.checks.proofs.Skeletons.{reads-certificate, certificate-reads}
+use Rattle.checks.specs.Model.{itself}
+use Rattle.checks.proofs.Roles.{isIssuer, belowOf}
+use Rattle.checks.proofs.Alone.{own-sound, own-complete}
 
 -- ---- a key that is in no list
 true-false : true ≡ false → ⊥
@@ -60,34 +62,28 @@ reading (NoCertificate x) k (reading-not f) e = absurd (omega arith)
 
 module _ (s : List ℕ) (b : Bytes s) (distrusted : List (List ℕ)) (time : ℕ) (wanted : List ℕ) (demanded : Bool) (role : Role) where
   pub check-sound : checked s distrusted time wanted demanded (isIssuer role) (belowOf role) ≡ 0 → (o : Contents) × IsCertificate s o × Fit distrusted time wanted demanded role o
-  unfolding checked ownOf
+  unfolding checkedAs
   check-sound e =
       let p = reading (readCertificate s true) _ (read-fair s true) e in
       let c = p .0 in
       let i = read-inside s b true c (p .1) in
       let q = peel (listed distrusted s (c .key .start) (c .key .end)) (p .2) (λ z. omega arith) in
-      let f = first-zero _ _ (q .1) in
-      let g = first-zero _ _ (f .1) in (
+      let m = own-sound s b c (p .1) time wanted demanded role (q .1) in (
         contentsOf s c,
         reads-certificate s b (contentsOf s c) (c, p .1, refl),
         record {
           trusted = listed-trusted s (c .key .start) (c .key .end) (i .key .ordered) (i .key .inside) distrusted (q .0);
-          valid = valid-sound s b (c .validity .start) (c .validity .end) time (f .0);
-          placed =
-              role-sound s b (c .known .«basic_constraints» .start) (c .known .«basic_constraints» .end) (i .known .«basic_constraints» .ordered) (c .known .«basic_constraints» .known) role (g .0);
-          purposed = purposes-sound s b (c .known .«key_purposes» .start) (c .known .«key_purposes» .end) wanted (c .known .«key_purposes» .known) demanded (g .1);
+          valid = m .0;
+          placed = m .1;
+          purposed = m .2;
         },
       )
 
   fits-checked : (c : Certificate) → readCertificate s true ≡ Accepted c → Fit distrusted time wanted demanded role (contentsOf s c) → checked s distrusted time wanted demanded (isIssuer role) (belowOf role) ≡ 0
-  unfolding checked ownOf onReading
+  unfolding checkedAs onReading
   fits-checked c r f =
-      let i = read-inside s b true c r in
       let t = trusted-listed s (c .key .start) (c .key .end) distrusted (f .trusted) in
-      let v = valid-complete s (c .validity .start) (c .validity .end) time (i .validity .ordered) (i .validity .inside) (f .valid) in
-      let role-fits = role-complete s b (c .known .«basic_constraints» .start) (c .known .«basic_constraints» .end) (i .known .«basic_constraints» .ordered) (c .known .«basic_constraints» .known) role (i .known .«basic_constraints» .inside) (f .placed) in
-      let p = purposes-complete s b (c .known .«key_purposes» .start) (c .known .«key_purposes» .end) wanted (i .known .«key_purposes» .ordered) (i .known .«key_purposes» .inside) (c .known .«key_purposes» .known) demanded (f .purposed) in
-      rw (r, t) (zero-first _ _ v (zero-first _ _ role-fits p))
+      rw (r, t) (own-complete s b c r time wanted demanded role (f .valid, f .placed, f .purposed))
 
   pub check-complete : (o : Contents) → IsCertificate s o → Fit distrusted time wanted demanded role o → checked s distrusted time wanted demanded (isIssuer role) (belowOf role) ≡ 0
   check-complete o x f =
@@ -98,7 +94,7 @@ module _ (s : List ℕ) (b : Bytes s) (distrusted : List (List ℕ)) (time : ℕ
 module _ (issuers : List (List ℕ)) (end : List ℕ) (anchors : ℕ) (distrusted : List (List ℕ)) (time : ℕ) (wanted : List ℕ) (demanded : Bool) where
   in-place : (path : List ℕ) → checkOn issuers end anchors distrusted time wanted demanded path
       ≡ checked (certificateOf issuers end anchors (newest path)) distrusted time wanted demanded (isIssuer (roleOf path)) (belowOf (roleOf path))
-  unfolding checkOn newest depthOf
+  unfolding checkIn newest depthOf
   in-place [] = refl
   in-place (n ∷ []) = refl
   in-place (n ∷ (m ∷ ns)) =

@@ -1,11 +1,4 @@
 pub mod Laws
-pub mod Refusals
-pub mod Contents
-pub mod Skeletons
-pub mod Purposes
-pub mod Valid
-pub mod Roles
 pub mod Checked
 pub mod Verdicts
-pub mod Questions
 pub mod Paths

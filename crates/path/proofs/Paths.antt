@@ -6,7 +6,7 @@ use mathlib.Core.Bool.{Bool}
 use lib.ListN.{length}
 use Rattle.der.specs.Places.{Bytes}
 use Rattle.path.specs.declared.candidate.Verdict.the-variants.{Extend}
-use Rattle.path.specs.Lent.{certificateOf, newest}
+use Rattle.lent.specs.Lent.{certificateOf, newest}
 use Rattle.path.specs.Paths.{InOrder}
 use Rattle.path.specs.Model.{checkOn, verdictOn}
 use Rattle.path.proofs.Checked.{path-check-sound, path-check-complete}

@@ -17,16 +17,21 @@ use Rattle.cert.specs.declared.Certificate.{Certificate}
 use Rattle.cert.specs.declared.Reading.{Reading}
 use Rattle.cert.specs.declared.Reading.the-variants.{Accepted, Refused as NoCertificate}
 use Rattle.cert.specs.Model.{readCertificate}
-use Rattle.cert.proofs.Value.{part-whole}
-use Rattle.cert.proofs.Inversion.{chosen}
+use Rattle.extensions.proofs.Value.{part-whole}
+use Rattle.extensions.proofs.Inversion.{chosen}
 use Rattle.cert.proofs.Laws.{read-inside}
+use Rattle.table.specs.declared.Outline.{Outline}
+use Rattle.table.proofs.Laws.{on-outline}
+use Rattle.table.specs.Model.{outlineOf, outlined, onOutline}
 use Rattle.path.specs.declared.candidate.Verdict.the-variants.{Pass, Anchor, Extend}
-use Rattle.path.specs.Conditions.{Contents, Same}
-use Rattle.path.proofs.Contents.{at, contentsOf, Reads}
+use Rattle.checks.specs.Conditions.{Contents}
+use Rattle.path.specs.Conditions.{Same}
+use Rattle.checks.proofs.Contents.{at, contentsOf, Reads}
 use Rattle.path.specs.Candidates.{Extends, Anchors}
-use Rattle.path.specs.Lent.{certificateOf, newest}
-use Rattle.path.specs.Model.{listed, depthOf, onReading, hasBoth, onPath, anchorVerdict, anchorAt, issuerVerdict, verdictOn}
-use Rattle.path.proofs.Skeletons.{reads-certificate, certificate-reads}
+use Rattle.lent.specs.Lent.{certificateOf, someOf, newest}
+use Rattle.lent.specs.Lent.{listed}
+use Rattle.path.specs.Model.{depthOf, hasBoth, onPath, anchorVerdict, anchorAt, issuerVerdict, verdictOn, hasBothAs, issuerVerdictIn, onPathIn, verdictIn}
+use Rattle.checks.proofs.Skeletons.{reads-certificate, certificate-reads}
 use Rattle.path.proofs.Checked.{listed-trusted, trusted-listed}
 
 pass-extend : {e : ℕ} → Pass e ≡ Extend → ⊥
@@ -41,12 +46,6 @@ anchor-extend q = let z : _≡_ {A = ℕ} 0 1 = cc in omega arith
 false-true : false ≡ true → ⊥
 false-true q = let z : _≡_ {A = ℕ} 0 1 = cc in omega arith
 
--- ---- a certificate that was gone on from
-pub on-reading : {R : Type 0} {r : R} (g : Reading) (other : ℕ → R) (k : Certificate → R) → onReading g other k ≡ r → ((e : ℕ) → other e ≡ r → ⊥) → (c : Certificate) × (g ≡ Accepted c) × (k c ≡ r)
-unfolding onReading
-on-reading (Accepted c) other k e n = (c, refl, e)
-on-reading (NoCertificate x) other k e n = absurd (n x e)
-
 -- the field of one certificate is the field of another, byte for byte
 module _ (s t : List ℕ) (p q : Span) where
   pub same-fields : sameParts s (p .start) (p .end) t (q .start) (q .end) ≡ true → at s p ≡ at t q
@@ -55,15 +54,15 @@ module _ (s t : List ℕ) (p q : Span) where
 -- ---- subject and key on the path
 module _ (s : List ℕ) (b : Bytes s) (c : Certificate) (r : readCertificate s true ≡ Accepted c) where
   both-same : (t : List ℕ) → hasBoth s (c .subject) (c .key) t ≡ true → (o : Contents) × Reads t o × Same (contentsOf s c) o
-  unfolding hasBoth
+  unfolding hasBothAs
   both-same t e =
-      let p = on-reading (readCertificate t true) _ _ e (λ x z. false-true z) in
+      let p = on-outline (readCertificate t true) _ _ e (λ x z. false-true z) in
       let d = p .0 in
       let q = chosen (sameParts s (c .subject .start) (c .subject .end) t (d .subject .start) (d .subject .end)) (p .2) false-true in
       (contentsOf t d, (d, p .1, refl), (same-fields s t (c .subject) (d .subject) (q .0), same-fields s t (c .key) (d .key) (q .1)))
 
   same-both : (t : List ℕ) → Bytes t → (o : Contents) → Reads t o → Same (contentsOf s c) o → hasBoth s (c .subject) (c .key) t ≡ true
-  unfolding hasBoth onReading
+  unfolding hasBothAs onOutline outlined
   same-both t bt o x m =
       let d = x .0 in
       let i = read-inside s b true c r in
@@ -78,7 +77,7 @@ module _ (s : List ℕ) (b : Bytes s) (c : Certificate) (r : readCertificate s t
     Once path = (n : ℕ) → List·Memᴰ n path → (o : Contents) → Reads (certificateOf issuers end anchors n) o → Same (contentsOf s c) o → ⊥
 
     once-sound : (path : List ℕ) → onPath issuers end anchors s (c .subject) (c .key) path ≡ false → Once path
-    unfolding onPath
+    unfolding onPathIn someOf
     once-sound [] e n m o x y = List·Memᴰ·not-nil m
     once-sound (k ∷ ks) e n m o x y =
         let p = peel (hasBoth s (c .subject) (c .key) (certificateOf issuers end anchors k)) e (λ z. false-true (sym z)) in
@@ -88,7 +87,7 @@ module _ (s : List ℕ) (b : Bytes s) (c : Certificate) (r : readCertificate s t
         (List·Memᴰ·cases-cons m)
 
     once-complete : (path : List ℕ) → Once path → onPath issuers end anchors s (c .subject) (c .key) path ≡ false
-    unfolding onPath
+    unfolding onPathIn someOf
     once-complete [] f = refl
     once-complete (k ∷ ks) f = go (hasBoth s (c .subject) (c .key) (certificateOf issuers end anchors k)) refl (once-complete ks (λ n m. f n (List·Memᴰ·tail m)))
       where
@@ -118,24 +117,24 @@ module _ (issuers : List (List ℕ)) (end : List ℕ) (subjects keys distrusted 
       anchor-extend (r .1)
 
   not-anchor : (head : List ℕ) (issuer : Span) (s : List ℕ) → issuerVerdict issuers end (length subjects) path head issuer s ≡ Anchor → ⊥
-  unfolding issuerVerdict
+  unfolding issuerVerdictIn
   not-anchor head issuer s e =
-      let p = on-reading (readCertificate s true) Pass _ e (λ x. pass-anchor) in
+      let p = on-outline (readCertificate s true) Pass _ e (λ x. pass-anchor) in
       let c = p .0 in
       let q = chosen (sameParts s (c .subject .start) (c .subject .end) head (issuer .start) (issuer .end)) (p .2) pass-anchor in
       let r = peel (onPath issuers end (length subjects) s (c .subject) (c .key) path) (q .1) pass-anchor in
       anchor-extend (sym (r .1))
 
   pub extend-sound : verdictOn issuers end subjects keys distrusted path i ≡ Extend → Extends issuers end subjects keys distrusted path i
-  unfolding verdictOn issuerVerdict
+  unfolding verdictIn issuerVerdictIn
   extend-sound e =
       let head = certificateOf issuers end (length subjects) (newest path) in
       let s = certificateOf issuers end (length subjects) i in
       let p = peel (leb 7 (depthOf path)) e pass-extend in
-      let q = on-reading (readCertificate head true) Pass _ (p .1) (λ x. pass-extend) in
+      let q = on-outline (readCertificate head true) Pass _ (p .1) (λ x. pass-extend) in
       let h = q .0 in
       let r = peel (ltb i (length subjects)) (q .2) (not-extend head (h .issuer)) in
-      let t = on-reading (readCertificate s true) Pass _ (r .1) (λ x. pass-extend) in
+      let t = on-outline (readCertificate s true) Pass _ (r .1) (λ x. pass-extend) in
       let c = t .0 in
       let u = chosen (sameParts s (c .subject .start) (c .subject .end) head (h .issuer .start) (h .issuer .end)) (t .2) pass-extend in
       let v = peel (onPath issuers end (length subjects) s (c .subject) (c .key) path) (u .1) pass-extend in
@@ -151,7 +150,7 @@ module _ (issuers : List (List ℕ)) (end : List ℕ) (subjects keys distrusted 
       }
 
   pub extend-complete : Extends issuers end subjects keys distrusted path i → verdictOn issuers end subjects keys distrusted path i ≡ Extend
-  unfolding verdictOn issuerVerdict onReading
+  unfolding verdictIn issuerVerdictIn onOutline outlined
   extend-complete x =
       let head = certificateOf issuers end (length subjects) (newest path) in
       let s = certificateOf issuers end (length subjects) i in
@@ -168,13 +167,13 @@ module _ (issuers : List (List ℕ)) (end : List ℕ) (subjects keys distrusted 
       rw (lt-leb 7 (depthOf path) (places-few path (x .few)), top .1, le-ltb i (length subjects) (x .candidate), new .1, g, o)
 
   pub anchor-sound : verdictOn issuers end subjects keys distrusted path i ≡ Anchor → Anchors issuers end subjects keys distrusted path i
-  unfolding verdictOn anchorAt anchorVerdict
+  unfolding verdictIn anchorAt anchorVerdict
   anchor-sound e =
       let head = certificateOf issuers end (length subjects) (newest path) in
       let subject = getD subjects i [] in
       let key = getD keys i [] in
       let p = peel (leb 7 (depthOf path)) e pass-anchor in
-      let q = on-reading (readCertificate head true) Pass _ (p .1) (λ x. pass-anchor) in
+      let q = on-outline (readCertificate head true) Pass _ (p .1) (λ x. pass-anchor) in
       let h = q .0 in
       let r = chosen (ltb i (length subjects)) (q .2) (not-anchor head (h .issuer) (certificateOf issuers end (length subjects) i)) in
       let t = chosen (ltb i (length keys)) (r .1) pass-anchor in
@@ -192,7 +191,7 @@ module _ (issuers : List (List ℕ)) (end : List ℕ) (subjects keys distrusted 
       }
 
   pub anchor-complete : Anchors issuers end subjects keys distrusted path i → verdictOn issuers end subjects keys distrusted path i ≡ Anchor
-  unfolding verdictOn anchorAt anchorVerdict onReading
+  unfolding verdictIn anchorAt anchorVerdict onOutline outlined
   anchor-complete x =
       let head = certificateOf issuers end (length subjects) (newest path) in
       let subject = getD subjects i [] in

@@ -2,9 +2,10 @@
 use Prim.Native.Nat.{ℕ, suc, _≤_, _<_}
 use mathlib.Core.List.{List, [], List·Memᴰ}
 use lib.ListN.{length, getD}
-use Rattle.path.specs.Conditions.{Contents, Trusted, Chained, Same}
-use Rattle.path.specs.Skeletons.{IsCertificate}
-use Rattle.path.specs.Lent.{mostIntermediates, certificateOf, newest}
+use Rattle.checks.specs.Conditions.{Contents}
+use Rattle.path.specs.Conditions.{Trusted, Chained, Same}
+use Rattle.checks.specs.Skeletons.{IsCertificate}
+use Rattle.lent.specs.Lent.{mostIntermediates, certificateOf, newest}
 
 module _ (issuers : List (List ℕ)) (end : List ℕ) (subjects keys distrusted : List (List ℕ)) (path : List ℕ) (i : ℕ) where
   -- the certificate with a number is one with these contents

@@ -3,10 +3,11 @@ use Prim.Native.Nat.{ℕ}
 use mathlib.Core.List.{List, [], _∷_}
 use mathlib.Core.Bool.{Bool}
 use lib.ListN.{length}
-use Rattle.path.specs.Conditions.{Contents, Fit, roleOf}
-use Rattle.path.specs.Skeletons.{IsCertificate}
+use Rattle.checks.specs.Conditions.{Contents}
+use Rattle.path.specs.Conditions.{Fit, roleOf}
+use Rattle.checks.specs.Skeletons.{IsCertificate}
 use Rattle.path.specs.Candidates.{Extends}
-use Rattle.path.specs.Lent.{certificateOf, newest}
+use Rattle.lent.specs.Lent.{certificateOf, newest}
 
 module _ (issuers : List (List ℕ)) (end : List ℕ) (subjects keys distrusted : List (List ℕ)) (time : ℕ) (wanted : List ℕ) (demanded : Bool) where
   -- the newest certificate fits where it stands

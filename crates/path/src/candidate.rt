@@ -1,13 +1,13 @@
 // What a candidate is to a path: an anchor to try, an issuer to extend the path with, or passed over.
-use crate::lent::MOST_INTERMEDIATES;
-use cert::Reading;
 use der::Span;
+use lent::MOST_INTERMEDIATES;
+use table::Outlined;
 ghost use mathlib.Core.Path.{_≡_};
 ghost use mathlib.Core.List.{map};
 ghost use lib.ListN.{length};
 ghost use Prim.Native.Nat.{_<_};
-ghost use Rattle.path.specs.Lent.{pre};
-ghost use Rattle.path.specs.Model.{hasBoth, onPath, anchorVerdict, anchorAt, issuerVerdict, verdictOn};
+ghost use Rattle.lent.specs.Lent.{readingsIn, pre};
+ghost use Rattle.path.specs.Model.{hasBothAs, onPathIn, anchorVerdict, anchorAt, issuerVerdictIn, verdictIn};
 
 pub enum Verdict {
     Pass(u16),
@@ -15,12 +15,12 @@ pub enum Verdict {
     Extend,
 }
 
-// Whether the certificate t has the subject and the key that stand in s.
-fn has_both(s: &[u8], subject: Span, key: Span, t: &[u8]) -> bool
-    ensures { λ r. ⌜ r ≡ hasBoth (now (s .entry)) subject key (now (t .entry)) ⌝ }
+// Whether the certificate t, of which that much is known, has the subject and the key that stand in s.
+fn has_both(s: &[u8], subject: Span, key: Span, t: &[u8], outline: Outlined) -> bool
+    ensures { λ r. ⌜ r ≡ hasBothAs outline (now (s .entry)) subject key (now (t .entry)) ⌝ }
 {
-    match cert::read(t, true) {
-        Reading::Accepted(c) => {
+    match outline {
+        Outlined::Is(c) => {
             let other = c.subject;
             let own = c.key;
             if der::same(s, subject.start, subject.end, t, other.start, other.end) {
@@ -28,12 +28,13 @@ fn has_both(s: &[u8], subject: Span, key: Span, t: &[u8]) -> bool
             }
             false
         }
-        Reading::Refused(_) => false,
+        Outlined::Refused(_) => false,
     }
 }
 
 // Whether some certificate of the path, the end entity among them, has the subject and the key that stand in s.
 fn on_path<'a>(
+    table: &[[usize; 37]],
     issuers: &'a [&'a [u8]],
     end: &'a [u8],
     anchors: usize,
@@ -44,13 +45,15 @@ fn on_path<'a>(
     key: Span,
 ) -> bool
     requires { ⌜ depth < 7 ⌝ }
-    ensures { λ r. ⌜ r ≡ onPath (map now (now (issuers .entry))) (now (end .entry)) anchors (now (s .entry)) subject key (pre path depth) ⌝ }
+    ensures { λ r. ⌜ r ≡ onPathIn (readingsIn (now (table .entry)) (map now (now (issuers .entry))) (now (end .entry)) anchors) (map now (now (issuers .entry))) (now (end .entry)) anchors (now (s .entry)) subject key (pre path depth) ⌝ }
 {
     let mut k = depth + 1;
     while 0 < k {
         k -= 1;
-        let t = crate::lent::certificate(issuers, end, anchors, crate::lent::number_at(path, k));
-        if has_both(s, subject, key, t) {
+        let n = lent::number_at(path, k);
+        let t = lent::certificate(issuers, end, anchors, n);
+        let outline = lent::outline(table, issuers, end, anchors, n);
+        if has_both(s, subject, key, t, outline) {
             return true;
         }
     }
@@ -68,7 +71,7 @@ fn anchor_verdict(
     ensures { λ r. ⌜ r ≡ anchorVerdict (now (subject .entry)) (now (key .entry)) (map now (now (distrusted .entry))) (now (head .entry)) issuer ⌝ }
 {
     if der::same(subject, 0, subject.len(), head, issuer.start, issuer.end) {
-        if crate::lent::is_distrusted(distrusted, key, 0, key.len()) {
+        if lent::is_distrusted(distrusted, key, 0, key.len()) {
             return Verdict::Pass(refusal::CERT_DISTRUSTED);
         }
         return Verdict::Anchor;
@@ -96,8 +99,9 @@ fn anchor_at(
     Verdict::Pass(refusal::UNKNOWN_ISSUER)
 }
 
-// The verdict on the certificate s as an issuer, for a path whose newest certificate has its issuer in `head`.
+// The verdict on the certificate s, of which that much is known, as an issuer: for a path whose newest certificate has its issuer in `head`.
 fn issuer_verdict<'a>(
+    table: &[[usize; 37]],
     issuers: &'a [&'a [u8]],
     end: &'a [u8],
     anchors: usize,
@@ -106,12 +110,13 @@ fn issuer_verdict<'a>(
     head: &[u8],
     issuer: Span,
     s: &[u8],
+    outline: Outlined,
 ) -> Verdict
     requires { ⌜ depth < 7 ⌝ }
-    ensures { λ r. ⌜ r ≡ issuerVerdict (map now (now (issuers .entry))) (now (end .entry)) anchors (pre path depth) (now (head .entry)) issuer (now (s .entry)) ⌝ }
+    ensures { λ r. ⌜ r ≡ issuerVerdictIn (readingsIn (now (table .entry)) (map now (now (issuers .entry))) (now (end .entry)) anchors) (map now (now (issuers .entry))) (now (end .entry)) anchors (pre path depth) (now (head .entry)) issuer (now (s .entry)) outline ⌝ }
 {
-    match cert::read(s, true) {
-        Reading::Accepted(c) => {
+    match outline {
+        Outlined::Is(c) => {
             let subject = c.subject;
             let key = c.key;
             if der::same(
@@ -122,19 +127,20 @@ fn issuer_verdict<'a>(
                 issuer.start,
                 issuer.end,
             ) {
-                if on_path(issuers, end, anchors, path, depth, s, subject, key) {
+                if on_path(table, issuers, end, anchors, path, depth, s, subject, key) {
                     return Verdict::Pass(refusal::UNKNOWN_ISSUER);
                 }
                 return Verdict::Extend;
             }
             Verdict::Pass(refusal::UNKNOWN_ISSUER)
         }
-        Reading::Refused(why) => Verdict::Pass(why),
+        Outlined::Refused(why) => Verdict::Pass(why),
     }
 }
 
-// The verdict on candidate i for a path, whose newest certificate is read again.
+// The verdict on candidate i for a path.
 pub fn verdict_on<'a>(
+    table: &[[usize; 37]],
     issuers: &'a [&'a [u8]],
     end: &'a [u8],
     subjects: &[&[u8]],
@@ -144,22 +150,35 @@ pub fn verdict_on<'a>(
     depth: usize,
     i: usize,
 ) -> Verdict
-    ensures { λ r. ⌜ r ≡ verdictOn (map now (now (issuers .entry))) (now (end .entry)) (map now (now (subjects .entry))) (map now (now (keys .entry))) (map now (now (distrusted .entry))) (pre path depth) i ⌝ }
+    ensures { λ r. ⌜ r ≡ verdictIn (readingsIn (now (table .entry)) (map now (now (issuers .entry))) (now (end .entry)) (length (now (subjects .entry)))) (map now (now (issuers .entry))) (now (end .entry)) (map now (now (subjects .entry))) (map now (now (keys .entry))) (map now (now (distrusted .entry))) (pre path depth) i ⌝ }
 {
     if MOST_INTERMEDIATES < depth {
         return Verdict::Pass(refusal::MAXIMUM_PATH_DEPTH_EXCEEDED);
     }
     let anchors = subjects.len();
-    let head = crate::lent::certificate(issuers, end, anchors, crate::lent::number_at(path, depth));
-    match cert::read(head, true) {
-        Reading::Accepted(c) => {
+    let n = lent::number_at(path, depth);
+    let head = lent::certificate(issuers, end, anchors, n);
+    match lent::outline(table, issuers, end, anchors, n) {
+        Outlined::Is(c) => {
             let issuer = c.issuer;
             if i < anchors {
                 return anchor_at(subjects, keys, distrusted, head, issuer, i);
             }
-            let s = crate::lent::certificate(issuers, end, anchors, i);
-            issuer_verdict(issuers, end, anchors, path, depth, head, issuer, s)
+            let s = lent::certificate(issuers, end, anchors, i);
+            let outline = lent::outline(table, issuers, end, anchors, i);
+            issuer_verdict(
+                table,
+                issuers,
+                end,
+                anchors,
+                path,
+                depth,
+                head,
+                issuer,
+                s,
+                outline,
+            )
         }
-        Reading::Refused(e) => Verdict::Pass(e),
+        Outlined::Refused(e) => Verdict::Pass(e),
     }
 }

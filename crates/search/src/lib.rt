@@ -1,83 +1,23 @@
 // The search for a path as a machine: it walks by itself, asks about one signature at a time, offers a finished path, and goes on with the answer.
+use lent::MOST_INTERMEDIATES;
+use machine::Phase;
+use machine::State;
 ghost use mathlib.Core.Path.{_≡_};
 ghost use mathlib.Core.List.{[], _∷_, map};
 ghost use lib.ListN.{length};
 ghost use Prim.Native.Nat.{_+_, _<_};
-ghost use Rattle.search.specs.declared.Phase.the-variants.{Walk};
+ghost use Rattle.lent.specs.Lent.{readingsIn};
+ghost use Rattle.machine.specs.declared.Phase.the-variants.{Walk};
 ghost use Rattle.dialogue.specs.Dialogue.{give};
-ghost use Rattle.search.specs.Machine.{keyAt, whatAt, placeOf, treeOf, effort, Halted, Started};
-ghost use Rattle.search.specs.World.{worldOf};
+ghost use Rattle.machine.specs.Machine.{treeOf, effort, Halted, Started};
+ghost use Rattle.machine.specs.World.{worldIn};
 
-mod reply;
 mod walk;
-
-// What the machine waits for, or how it ended. Ask: whether a key signed a certificate. Offer: whether the caller is content with the path.
-// Spent: which budget is used up.
-pub enum Phase {
-    Walk,
-    Ask,
-    Offer,
-    Found,
-    Refused(u16),
-    Spent(u16),
-}
-
-pub struct State {
-    // the path, end entity first; at each level the next candidate
-    pub path: [usize; 7],
-    pub next: [usize; 7],
-    pub depth: usize,
-    // the place in the path of the certificate asked about, and the anchor that is tried
-    pub at: usize,
-    pub anchor: usize,
-    // what is left of the budgets, and the refusal so far
-    pub signatures: u64,
-    pub extensions: u64,
-    pub comparisons: u64,
-    pub best: u16,
-    pub phase: Phase,
-}
-
-// The numbers of a question: whether the key of candidate `key` signed the certificate.
-pub struct Numbers {
-    pub key: usize,
-    pub certificate: usize,
-}
-
-// The place of the certificate asked about, at most the highest.
-fn place(s: State) -> usize
-    ensures { λ r. ⌜ r ≡ placeOf s ⌝ }
-{
-    let at = s.at;
-    let depth = s.depth;
-    if at < depth {
-        return at;
-    }
-    depth
-}
-
-// The question of a state: the highest certificate is asked of the anchor's key, each other of the key of the one above it.
-pub fn asked(s: State) -> Numbers
-    ensures { λ r. ⌜ r ≡ record { key = keyAt s; certificate = whatAt s } ⌝ }
-{
-    let at = s.at;
-    let depth = s.depth;
-    let numbers = s.path;
-    if at < depth {
-        return Numbers {
-            key: path::lent::number_at(numbers, at + 1),
-            certificate: path::lent::number_at(numbers, at),
-        };
-    }
-    Numbers {
-        key: s.anchor,
-        certificate: path::lent::number_at(numbers, depth),
-    }
-}
 
 // The next question or the end, after an answer. To a question 0 is yes; 1: the signature is wrong; 2: the algorithm is unknown; 3: it is
 // not for this key; 4: the key cannot be read. To an offer 0 is content, any other number the refusal to note.
 pub fn answer<'a>(
+    table: &[[usize; 37]],
     issuers: &'a [&'a [u8]],
     end: &'a [u8],
     subjects: &[&[u8]],
@@ -91,16 +31,17 @@ pub fn answer<'a>(
     s: State,
     given: u16,
 ) -> State
-    ensures { λ r. ⌜ (s .depth < 7 → (s .phase ≡ Walk → ⊥) → Halted (worldOf (map now (now (issuers .entry))) (now (end .entry)) (map now (now (subjects .entry))) (map now (now (keys .entry))) (map now (now (constraints .entry))) (now (bound .entry)) (map now (now (distrusted .entry))) time (now (wanted .entry)) demanded) s r (given ∷ []) (give (treeOf (worldOf (map now (now (issuers .entry))) (now (end .entry)) (map now (now (subjects .entry))) (map now (now (keys .entry))) (map now (now (constraints .entry))) (now (bound .entry)) (map now (now (distrusted .entry))) time (now (wanted .entry)) demanded) s) given) (effort (worldOf (map now (now (issuers .entry))) (now (end .entry)) (map now (now (subjects .entry))) (map now (now (keys .entry))) (map now (now (constraints .entry))) (now (bound .entry)) (map now (now (distrusted .entry))) time (now (wanted .entry)) demanded) s)) ⌝ }
+    ensures { λ r. ⌜ (s .depth < 7 → (s .phase ≡ Walk → ⊥) → Halted (worldIn (readingsIn (now (table .entry)) (map now (now (issuers .entry))) (now (end .entry)) (length (now (subjects .entry)))) (map now (now (issuers .entry))) (now (end .entry)) (map now (now (subjects .entry))) (map now (now (keys .entry))) (map now (now (constraints .entry))) (now (bound .entry)) (map now (now (distrusted .entry))) time (now (wanted .entry)) demanded) s r (given ∷ []) (give (treeOf (worldIn (readingsIn (now (table .entry)) (map now (now (issuers .entry))) (now (end .entry)) (length (now (subjects .entry)))) (map now (now (issuers .entry))) (now (end .entry)) (map now (now (subjects .entry))) (map now (now (keys .entry))) (map now (now (constraints .entry))) (now (bound .entry)) (map now (now (distrusted .entry))) time (now (wanted .entry)) demanded) s) given) (effort (worldIn (readingsIn (now (table .entry)) (map now (now (issuers .entry))) (now (end .entry)) (length (now (subjects .entry)))) (map now (now (issuers .entry))) (now (end .entry)) (map now (now (subjects .entry))) (map now (now (keys .entry))) (map now (now (constraints .entry))) (now (bound .entry)) (map now (now (distrusted .entry))) time (now (wanted .entry)) demanded) s)) ⌝ }
 {
-    if 6 < s.depth {
+    if MOST_INTERMEDIATES < s.depth {
         return s;
     }
     let ph = s.phase;
     if let Phase::Walk = ph {
         return s;
     }
-    let t = reply::reply(
+    let t = replies::reply(
+        table,
         issuers,
         end,
         keys,
@@ -111,6 +52,7 @@ pub fn answer<'a>(
         given,
     );
     walk::advance(
+        table,
         issuers,
         end,
         subjects,
@@ -125,6 +67,7 @@ pub fn answer<'a>(
 
 // The first question, or the end: the search for a path to the end entity.
 pub fn start<'a>(
+    table: &[[usize; 37]],
     issuers: &'a [&'a [u8]],
     end: &'a [u8],
     subjects: &[&[u8]],
@@ -139,7 +82,7 @@ pub fn start<'a>(
     extensions: u64,
     comparisons: u64,
 ) -> State
-    ensures { λ r. ⌜ Started (worldOf (map now (now (issuers .entry))) (now (end .entry)) (map now (now (subjects .entry))) (map now (now (keys .entry))) (map now (now (constraints .entry))) (now (bound .entry)) (map now (now (distrusted .entry))) time (now (wanted .entry)) demanded) (length (now (subjects .entry)) + length (now (issuers .entry))) signatures extensions comparisons r ⌝ }
+    ensures { λ r. ⌜ Started (worldIn (readingsIn (now (table .entry)) (map now (now (issuers .entry))) (now (end .entry)) (length (now (subjects .entry)))) (map now (now (issuers .entry))) (now (end .entry)) (map now (now (subjects .entry))) (map now (now (keys .entry))) (map now (now (constraints .entry))) (now (bound .entry)) (map now (now (distrusted .entry))) time (now (wanted .entry)) demanded) (length (now (subjects .entry)) + length (now (issuers .entry))) signatures extensions comparisons r ⌝ }
 {
     let anchors = subjects.len();
     let numbers = [anchors + issuers.len(), 0, 0, 0, 0, 0, 0];
@@ -156,6 +99,7 @@ pub fn start<'a>(
         phase: Phase::Walk,
     };
     let e = path::check(
+        table,
         issuers,
         end,
         anchors,
@@ -174,6 +118,7 @@ pub fn start<'a>(
         };
     }
     walk::advance(
+        table,
         issuers,
         end,
         subjects,

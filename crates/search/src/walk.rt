@@ -1,16 +1,18 @@
 // The walk through the candidates, up to the next question or the end.
-use crate::Phase;
-use crate::State;
+use lent::MOST_INTERMEDIATES;
+use machine::Phase;
+use machine::State;
 use path::candidate::Verdict;
-use path::lent::MOST_INTERMEDIATES;
 ghost use mathlib.Core.Path.{_≡_};
 ghost use mathlib.Core.List.{List, [], map};
 ghost use Prim.Native.Nat.{ℕ, _<_};
-ghost use Rattle.path.specs.Model.{checkOn};
-ghost use Rattle.search.specs.declared.Phase.the-variants.{Walk};
+ghost use lib.ListN.{length};
+ghost use Rattle.lent.specs.Lent.{readingsIn};
+ghost use Rattle.path.specs.Model.{checkIn};
+ghost use Rattle.machine.specs.declared.Phase.the-variants.{Walk};
 ghost use Rattle.dialogue.specs.Model.{Path, World, signatures};
-ghost use Rattle.search.specs.Machine.{treeOf, still, effort, tryTree, extendTree, extendStill, Heard, Grew, Moved, Halted};
-ghost use Rattle.search.specs.World.{worldOf};
+ghost use Rattle.machine.specs.Machine.{treeOf, still, effort, tryTree, extendTree, extendStill, Heard, Grew, Moved, Halted};
+ghost use Rattle.machine.specs.World.{worldIn};
 
 // Anchor i is tried: the first of its signatures is asked for.
 fn begin(s: State, i: usize) -> State
@@ -36,6 +38,7 @@ fn begin(s: State, i: usize) -> State
 
 // The path is extended with candidate i, or there is a reason not to. The extension is paid for first.
 fn extend<'a>(
+    table: &[[usize; 37]],
     issuers: &'a [&'a [u8]],
     end: &'a [u8],
     anchors: usize,
@@ -47,7 +50,7 @@ fn extend<'a>(
     i: usize,
 ) -> State
     requires { ⌜ (s .depth < 7) × (s .phase ≡ Walk) ⌝ }
-    ensures { λ r. ⌜ ((W : World) → ((p : Path) → W .check p ≡ checkOn (map now (now (issuers .entry))) (now (end .entry)) anchors (map now (now (distrusted .entry))) time (now (wanted .entry)) demanded p) → Grew W s r i (extendTree W s i) (extendStill W s i)) ⌝ }
+    ensures { λ r. ⌜ ((W : World) → ((p : Path) → W .check p ≡ checkIn (readingsIn (now (table .entry)) (map now (now (issuers .entry))) (now (end .entry)) anchors) (map now (now (issuers .entry))) (now (end .entry)) anchors (map now (now (distrusted .entry))) time (now (wanted .entry)) demanded p) → Grew W s r i (extendTree W s i) (extendStill W s i)) ⌝ }
 {
     let extensions = s.extensions;
     let depth = s.depth;
@@ -70,6 +73,7 @@ fn extend<'a>(
     let mut next = s.next;
     numbers[depth + 1] = i;
     let e = path::check(
+        table,
         issuers,
         end,
         anchors,
@@ -100,6 +104,7 @@ fn extend<'a>(
 
 // One move: a level is left, or its next candidate is looked at.
 fn move_on<'a>(
+    table: &[[usize; 37]],
     issuers: &'a [&'a [u8]],
     end: &'a [u8],
     subjects: &[&[u8]],
@@ -111,7 +116,7 @@ fn move_on<'a>(
     s: State,
 ) -> State
     requires { ⌜ (s .depth < 7) × (s .phase ≡ Walk) ⌝ }
-    ensures { λ r. ⌜ ((C : List (List ℕ)) (B : List ℕ) → Moved (worldOf (map now (now (issuers .entry))) (now (end .entry)) (map now (now (subjects .entry))) (map now (now (keys .entry))) C B (map now (now (distrusted .entry))) time (now (wanted .entry)) demanded) s r) ⌝ }
+    ensures { λ r. ⌜ ((C : List (List ℕ)) (B : List ℕ) → Moved (worldIn (readingsIn (now (table .entry)) (map now (now (issuers .entry))) (now (end .entry)) (length (now (subjects .entry)))) (map now (now (issuers .entry))) (now (end .entry)) (map now (now (subjects .entry))) (map now (now (keys .entry))) C B (map now (now (distrusted .entry))) time (now (wanted .entry)) demanded) s r) ⌝ }
 {
     let depth = s.depth;
     let best = s.best;
@@ -133,13 +138,24 @@ fn move_on<'a>(
     }
     next[depth] = i + 1;
     let t = State { next, ..s };
-    match path::candidate::verdict_on(issuers, end, subjects, keys, distrusted, numbers, depth, i) {
+    match path::candidate::verdict_on(
+        table,
+        issuers,
+        end,
+        subjects,
+        keys,
+        distrusted,
+        numbers,
+        depth,
+        i,
+    ) {
         Verdict::Pass(e) => {
             let b = refusal::worse(best, e);
             State { best: b, ..t }
         }
         Verdict::Anchor => begin(t, i),
         Verdict::Extend => extend(
+            table,
             issuers,
             end,
             anchors,
@@ -155,6 +171,7 @@ fn move_on<'a>(
 
 // On to the next question or to the end.
 pub fn advance<'a>(
+    table: &[[usize; 37]],
     issuers: &'a [&'a [u8]],
     end: &'a [u8],
     subjects: &[&[u8]],
@@ -166,13 +183,14 @@ pub fn advance<'a>(
     s: State,
 ) -> State
     requires { ⌜ s .depth < 7 ⌝ }
-    ensures { λ r. ⌜ ((C : List (List ℕ)) (B : List ℕ) → Halted (worldOf (map now (now (issuers .entry))) (now (end .entry)) (map now (now (subjects .entry))) (map now (now (keys .entry))) C B (map now (now (distrusted .entry))) time (now (wanted .entry)) demanded) s r [] (treeOf (worldOf (map now (now (issuers .entry))) (now (end .entry)) (map now (now (subjects .entry))) (map now (now (keys .entry))) C B (map now (now (distrusted .entry))) time (now (wanted .entry)) demanded) s) (effort (worldOf (map now (now (issuers .entry))) (now (end .entry)) (map now (now (subjects .entry))) (map now (now (keys .entry))) C B (map now (now (distrusted .entry))) time (now (wanted .entry)) demanded) s)) ⌝ }
+    ensures { λ r. ⌜ ((C : List (List ℕ)) (B : List ℕ) → Halted (worldIn (readingsIn (now (table .entry)) (map now (now (issuers .entry))) (now (end .entry)) (length (now (subjects .entry)))) (map now (now (issuers .entry))) (now (end .entry)) (map now (now (subjects .entry))) (map now (now (keys .entry))) C B (map now (now (distrusted .entry))) time (now (wanted .entry)) demanded) s r [] (treeOf (worldIn (readingsIn (now (table .entry)) (map now (now (issuers .entry))) (now (end .entry)) (length (now (subjects .entry)))) (map now (now (issuers .entry))) (now (end .entry)) (map now (now (subjects .entry))) (map now (now (keys .entry))) C B (map now (now (distrusted .entry))) time (now (wanted .entry)) demanded) s) (effort (worldIn (readingsIn (now (table .entry)) (map now (now (issuers .entry))) (now (end .entry)) (length (now (subjects .entry)))) (map now (now (issuers .entry))) (now (end .entry)) (map now (now (subjects .entry))) (map now (now (keys .entry))) C B (map now (now (distrusted .entry))) time (now (wanted .entry)) demanded) s)) ⌝ }
 {
     let mut t = s;
     loop {
         let ph = t.phase;
         if let Phase::Walk = ph {
             t = move_on(
+                table,
                 issuers,
                 end,
                 subjects,

@@ -2,10 +2,16 @@
 use Prim.Native.Nat.{ℕ}
 use mathlib.Core.Path.{_≡_, sym, _∙_, ap}
 use mathlib.Core.Bool.{Bool, true, false}
+use mathlib.Core.List.{List}
 use borrow.Author.Tests.{eq-eqb, ne-eqb}
-use Rattle.search.specs.declared.State.{State}
+use Rattle.cert.specs.declared.Reading.{Reading}
+use Rattle.machine.specs.declared.State.{State}
 use Rattle.steps.specs.declared.Step.{Step}
-use Rattle.steps.specs.Model.{numberOf, refusalOf, isFound, stepOf, shownAs}
+use Rattle.steps.specs.Model.{numberOf, refusalOf, nameBy, isFound, stepOf, shownAs}
+
+-- what is said of the name, by what is known of the end entity
+pub named-by : (r g : Reading) (end : List ℕ) (kind : ℕ) (name : List ℕ) (x : ℕ) → r ≡ g → x ≡ nameBy r end kind name → x ≡ nameBy g end kind name
+named-by r g end kind name x q e = e ∙ ap (λ (y : Reading). nameBy y end kind name) q
 
 -- the step that a state is shown as: found for another name, found, not found
 module _ (s : State) (r : Step) (b : Bool) (e x : ℕ) (is : b ≡ isFound (s .phase)) where

@@ -1,12 +1,15 @@
 -- What a step is: the state of the search that it holds, and the step that a state is shown as.
 use Prim.Native.Nat.{ℕ}
 use mathlib.Core.Bool.{Bool, true, false, cond}
-use mathlib.Core.List.{[], _∷_}
+use mathlib.Core.List.{List, [], _∷_}
 use lib.Dec.{ltb, eqb}
 use Rattle.refusal.specs.Refusals.{maximumPathDepthExceeded}
-use Rattle.search.specs.declared.State.{State}
-use Rattle.search.specs.declared.Phase.{Phase}
-use Rattle.search.specs.declared.Phase.the-variants.{Walk, Ask, Offer, Found, Refused, Spent}
+use Rattle.cert.specs.declared.Reading.{Reading}
+use Rattle.path.specs.Model.{onReading}
+use Rattle.conditions.specs.Model.{nameIn}
+use Rattle.machine.specs.declared.State.{State}
+use Rattle.machine.specs.declared.Phase.{Phase}
+use Rattle.machine.specs.declared.Phase.the-variants.{Walk, Ask, Offer, Found, Refused, Spent}
 use Rattle.steps.specs.declared.Step.{Step}
 
 -- the phases by their numbers; every other number is an end
@@ -58,6 +61,10 @@ stepOf s phase e = record {
   phase = phase;
   refusal = e;
 }
+
+-- the refusal of the name, or none, by what is known of the end entity
+unfoldable pub nameBy : Reading → List ℕ → ℕ → List ℕ → ℕ
+nameBy r end kind name = onReading r (λ e. e) (nameIn end kind name)
 
 unfoldable pub isFound : Phase → Bool
 isFound Walk = false

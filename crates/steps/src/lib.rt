@@ -1,10 +1,10 @@
 // Steps, which a caller holds between two calls, and the states of the search: the same numbers, the phase as a number.
-use path::lent::MOST_INTERMEDIATES;
-use search::Phase;
-use search::State;
+use lent::MOST_INTERMEDIATES;
+use machine::Phase;
+use machine::State;
 ghost use mathlib.Core.Path.{_≡_};
-ghost use Rattle.conditions.specs.Model.{nameOf};
-ghost use Rattle.steps.specs.Model.{phaseOf, numberOf, refusalOf, isFound, stateOf, stepOf, shownAs, endedStep};
+ghost use Rattle.table.specs.Model.{readingIn};
+ghost use Rattle.steps.specs.Model.{phaseOf, numberOf, refusalOf, nameBy, isFound, stateOf, stepOf, shownAs, endedStep};
 
 pub mod name;
 
@@ -161,13 +161,14 @@ fn step_of(s: State, phase: u16, refusal: u16) -> Step
     }
 }
 
-// The step that a state is. A path that is found is one only if the end entity is good for the name.
-pub fn shown(end: &[u8], kind: u8, name: &[u8], s: State) -> Step
-    ensures { λ r. ⌜ r ≡ shownAs (nameOf (now (end .entry)) kind (now (name .entry))) s (s .phase) ⌝ }
+// The step that a state is. A path that is found is one only if the end entity, whose row has the number i, is good for the name.
+pub fn shown(table: &[[usize; 37]], i: usize, end: &[u8], kind: u8, name: &[u8], s: State) -> Step
+    ensures { λ r. ⌜ r ≡ shownAs (nameBy (readingIn (now (table .entry)) i (now (end .entry))) (now (end .entry)) kind (now (name .entry))) s (s .phase) ⌝ }
 {
     let ph = s.phase;
     if is_found(ph) {
-        let e = crate::name::refusal_for(end, kind, name);
+        let reading = table::reading(table, i, end);
+        let e = crate::name::refusal_for(reading, end, kind, name);
         if e != 0 {
             return step_of(s, REFUSED, e);
         }

@@ -3,7 +3,8 @@ use cert::Certificate;
 use cert::Reading;
 use names::general::Verdict;
 ghost use mathlib.Core.Path.{_≡_};
-ghost use Rattle.conditions.specs.Model.{refusalIn, nameIn, nameOf};
+ghost use Rattle.conditions.specs.Model.{refusalIn, nameIn};
+ghost use Rattle.steps.specs.Model.{nameBy};
 
 // The kinds of name: none is wanted, a DNS name, an IP address (4 or 16 bytes).
 pub const NONE: u8 = 0;
@@ -39,11 +40,11 @@ fn refusal_from(end: &[u8], kind: u8, name: &[u8], c: Certificate) -> u16
     refusal::CERT_NOT_VALID_FOR_NAME
 }
 
-// 0, or why the end entity is not good for the name.
-pub fn refusal_for(end: &[u8], kind: u8, name: &[u8]) -> u16
-    ensures { λ r. ⌜ r ≡ nameOf (now (end .entry)) kind (now (name .entry)) ⌝ }
+// 0, or why the end entity, of which that much is known, is not good for the name.
+pub fn refusal_for(reading: Reading, end: &[u8], kind: u8, name: &[u8]) -> u16
+    ensures { λ r. ⌜ r ≡ nameBy reading (now (end .entry)) kind (now (name .entry)) ⌝ }
 {
-    match cert::read(end, true) {
+    match reading {
         Reading::Accepted(c) => refusal_from(end, kind, name, c),
         Reading::Refused(e) => e,
     }

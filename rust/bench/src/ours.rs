@@ -2,7 +2,7 @@
 use crate::What;
 use cases::case::{AnchorIn, Case};
 use cases::toy;
-use pathjudge::{Anchor, AnchorVec, Budgets, Bytes, Purpose, Question, Request};
+use pathjudge::{Anchor, AnchorVec, Budgets, Bytes, Purpose, Question, Request, Row};
 use std::hint::black_box;
 use std::time::{Duration, Instant};
 
@@ -39,11 +39,12 @@ impl<'a> Ready<'a> {
             name: None,
             budgets: Budgets::default(),
         };
+        let mut rows = vec![Row::EMPTY; self.intermediates.len() + 1];
         let start = Instant::now();
         for _ in 0..count {
             match what {
                 What::Parse => black_box(pathjudge::read(black_box(request.end_entity)).is_ok()),
-                What::Decide => black_box(black_box(&request).judge(&mut |question: &Question| toy::check(question)).is_ok()),
+                What::Decide => black_box(black_box(&request).judge_in(&mut rows, &mut |question: &Question| toy::check(question)).is_ok()),
             };
         }
         start.elapsed()

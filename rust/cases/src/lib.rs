@@ -3,18 +3,23 @@ pub mod case;
 pub mod toy;
 
 use case::{AnchorIn, Case, NameIn};
-use pathjudge::{Anchor, AnchorVec, Answer, Budgets, Bytes, Name, Party, Path, Purpose, Question, Refusal, Request, Search, State};
+use pathjudge::{Anchor, AnchorVec, Answer, Budgets, Bytes, Name, Party, Path, Purpose, Question, Refusal, Request, Row, Search, State};
 use std::fmt::Display;
 
 /// The oracle's line for a case. With revocation lists nothing is decided, since they cannot be read yet: the line says that alone.
 pub fn answer(case: &Case) -> String {
+    answer_in(case, usize::MAX)
+}
+
+/// The same, found with room for what is read of so many certificates.
+pub fn answer_in(case: &Case, most: usize) -> String {
     if case.revocation {
         return format!("{} | crls unsupported", case.name);
     }
     let anchors = Anchors::of(case);
     let read = pathjudge::read(&case.end_entity);
     let run = match read {
-        Ok(()) => Run::of(case, &anchors),
+        Ok(()) => Run::of(case, &anchors, most),
         Err(_) => Run::default(),
     };
     let names = match read {
@@ -99,10 +104,11 @@ struct Run {
 }
 
 impl Run {
-    fn of(case: &Case, anchors: &Anchors) -> Self {
+    fn of(case: &Case, anchors: &Anchors, most: usize) -> Self {
+        let mut rows = vec![Row::EMPTY; most.min(case.intermediates.len() + 1)];
         let intermediates: Vec<Bytes> = case.intermediates.iter().map(Bytes::from).collect();
         let distrusted: Vec<Bytes> = case.distrusted.iter().map(Bytes::from).collect();
-        let mut search = Search::begin(Request {
+        let request = Request {
             end_entity: &case.end_entity,
             intermediates: &intermediates,
             anchors: anchors.list.list(),
@@ -115,7 +121,8 @@ impl Run {
                 extensions,
                 comparisons,
             }),
-        });
+        };
+        let mut search = Search::begin(request, &mut rows);
         let mut vetoes = case.vetoes.unwrap_or(0);
         let mut run = Self::default();
         let end = loop {

@@ -1,5 +1,5 @@
 //! The C boundary (`include/pathjudge.h`), and all that is unsafe: the functions that crate `judge` exports, each with a safe one over it.
-//! They are proved to be safe on every step and on lists of any lengths, so that nothing is tested here: a pointer with its own length is all
+//! They are proved to be safe on every step, every table and lists of any lengths, so that nothing is tested here: a pointer with its own length is all
 //! that they ask for.
 #![allow(unsafe_code)]
 
@@ -55,6 +55,31 @@ impl<'a, T: AsRef<[u8]> + ?Sized> From<&'a T> for Bytes<'a> {
 impl fmt::Debug for Bytes<'_> {
     fn fmt(&self, f: &mut fmt::Formatter<'_>) -> fmt::Result {
         self.as_slice().fmt(f)
+    }
+}
+
+/// How many numbers there are in a row.
+const ROW: usize = 37;
+
+/// Room for what is read of one certificate, so that it is read once: see [`Request::judge_in`](crate::Request::judge_in).
+#[derive(Clone, Copy, PartialEq, Eq)]
+#[repr(C)]
+pub struct Row([usize; ROW]);
+
+impl Row {
+    /// Nothing noted yet.
+    pub const EMPTY: Self = Self([0; ROW]);
+
+    /// A row of any numbers.
+    #[cfg(test)]
+    pub(crate) fn of(number: impl FnMut(()) -> usize) -> Self {
+        Self([(); ROW].map(number))
+    }
+}
+
+impl fmt::Debug for Row {
+    fn fmt(&self, f: &mut fmt::Formatter<'_>) -> fmt::Result {
+        f.write_str("Row")
     }
 }
 
@@ -134,6 +159,7 @@ pub(crate) struct Trusted {
 const _: () = {
     assert!(size_of::<Bytes>() == 16);
     assert!(offset_of!(Bytes, length) == 8);
+    assert!(size_of::<Row>() == 296);
     assert!(size_of::<Step>() == 168);
     assert!(offset_of!(Step, depth) == 112);
     assert!(offset_of!(Step, signatures) == 136);
@@ -214,8 +240,8 @@ macro_rules! step {
 }
 
 stepping! {
-    fn pathjudge_begin(signatures: u64, extensions: u64, comparisons: u64);
-    fn pathjudge_answer(step: Step, answer: u16);
+    fn pathjudge_begin(signatures: u64, extensions: u64, comparisons: u64, table: *mut Row, table_length: usize);
+    fn pathjudge_answer(table: *const Row, table_length: usize, step: Step, answer: u16);
 }
 
 extern "C" {
@@ -227,6 +253,8 @@ extern "C" {
         keys: List,
         keys_length: usize,
         anchors: usize,
+        table: *const Row,
+        table_length: usize,
         step: Step,
     ) -> Asked;
     fn pathjudge_read(certificate: *const u8, length: usize) -> u16;
@@ -235,18 +263,18 @@ extern "C" {
 }
 
 impl Lent<'_> {
-    /// The first step of a search, with so much of the three budgets.
-    pub fn begin(&self, signatures: u64, extensions: u64, comparisons: u64) -> Step {
-        step!(pathjudge_begin, self, signatures, extensions, comparisons)
+    /// The first step of a search, with so much of the three budgets. What is read of each certificate is noted in the table.
+    pub fn begin(&self, signatures: u64, extensions: u64, comparisons: u64, table: &mut [Row]) -> Step {
+        step!(pathjudge_begin, self, signatures, extensions, comparisons, table.as_mut_ptr(), table.len())
     }
 
     /// The step after an answer.
-    pub fn answer(&self, step: Step, answer: u16) -> Step {
-        step!(pathjudge_answer, self, step, answer)
+    pub fn answer(&self, table: &[Row], step: Step, answer: u16) -> Step {
+        step!(pathjudge_answer, self, table.as_ptr(), table.len(), step, answer)
     }
 
     /// What the question of a step is about.
-    pub fn question(&self, step: Step) -> Asked {
+    pub fn question(&self, table: &[Row], step: Step) -> Asked {
         // SAFETY: each pointer is that of a slice that is lent, with its length.
         unsafe {
             pathjudge_question(
@@ -257,6 +285,8 @@ impl Lent<'_> {
                 self.keys.as_ptr(),
                 self.keys.len(),
                 self.subjects.len(),
+                table.as_ptr(),
+                table.len(),
                 step,
             )
         }

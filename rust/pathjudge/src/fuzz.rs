@@ -1,15 +1,15 @@
-//! The boundary under made-up input: the raw functions on steps that no search has, lists whose lengths do not go together, empty slices,
+//! The boundary under made-up input: the raw functions on steps that no search has, tables that nobody filled, lists whose lengths do not go together, empty slices,
 //! certificates that are whole, damaged or noise. What must hold of every result is asserted.
 mod made;
 
-use crate::ffi::{self, Asked, Lent, Place, Step, Trusted, ASK, FOUND, MOST_CERTIFICATES, OFFER, REFUSED, SPENT};
+use crate::ffi::{self, Asked, Lent, Place, Row, Step, Trusted, ASK, FOUND, MOST_CERTIFICATES, OFFER, REFUSED, SPENT};
 use crate::Refusal;
 use made::{Random, World};
 use std::vec;
 use std::vec::Vec;
 
 const SEED: u64 = 0x7061_7468_6a75_6467;
-const FEW_CALLS: u64 = 50_000;
+const FEW_CALLS: u64 = 200_000;
 const MANY_CALLS: u64 = 10_000_000;
 /// How many calls `many_calls` makes, if it is set.
 const CALLS: &str = "PATHJUDGE_FUZZ_CALLS";
@@ -62,8 +62,9 @@ impl Fuzz {
     fn world(&mut self) {
         World::new(&mut self.random).lend(|lent| {
             for _ in 0..4 {
-                self.dialogue(lent);
-                self.made_up(lent);
+                let rows = self.dialogue(lent);
+                self.made_up(lent, &rows);
+                self.made_up_table(lent);
             }
             for bytes in lent.issuers.iter().map(|bytes| bytes.as_slice()).chain([lent.end, lent.name, &[]]) {
                 self.leaves(lent, bytes);
@@ -71,19 +72,21 @@ impl Fuzz {
         });
     }
 
-    /// A search from its beginning on, with answers out of the air.
-    fn dialogue(&mut self, lent: &Lent) {
+    /// A search from its beginning on, with answers out of the air, and the table that it filled: of any length.
+    fn dialogue(&mut self, lent: &Lent) -> Vec<Row> {
         let budgets = [self.random.number(BUDGET) as u64, self.random.below(BUDGET) as u64, self.random.number(BUDGET) as u64];
         self.calls += 1;
-        let mut step = lent.begin(budgets[0], budgets[1], budgets[2]);
+        let room = self.random.below(lent.issuers.len() + 3);
+        let mut rows = vec![Row::EMPTY; room];
+        let mut step = lent.begin(budgets[0], budgets[1], budgets[2], &mut rows);
         assert!(step.signatures <= budgets[0] && step.extensions <= budgets[1] && step.comparisons <= budgets[2]);
         let mut signed: Vec<(usize, usize)> = vec![];
         let mut content = false;
         loop {
-            self.sound(lent, step);
+            self.sound(lent, &rows, step);
             let answer = match step.phase {
                 ASK => {
-                    let asked = self.question(lent, step);
+                    let asked = self.question(lent, &rows, step);
                     assert_eq!(asked.refusal, 0, "a question is about a certificate");
                     let answer = self.random.answer(85);
                     // whatever is answered, a key that cannot be read signs nothing
@@ -105,7 +108,7 @@ impl Fuzz {
                 _ => break,
             };
             let before = step;
-            step = self.answer(lent, step, answer);
+            step = self.answer(lent, &rows, step, answer);
             assert!(step.phase != FOUND || before.phase == OFFER, "a path is found only where one was offered");
         }
         match step.phase {
@@ -125,6 +128,7 @@ impl Fuzz {
                     .contains(&step.refusal));
             }
         }
+        rows
     }
 
     /// An offer: a path of different certificates, each of which was said to be signed by the one above it, the last one by the anchor.
@@ -145,34 +149,46 @@ impl Fuzz {
     }
 
     /// A step out of the air.
-    fn made_up(&mut self, lent: &Lent) {
+    fn made_up(&mut self, lent: &Lent, rows: &[Row]) {
         let step = made::step(&mut self.random, lent.issuers.len());
         let answer = self.random.answer(50);
-        self.question(lent, step);
-        let after = self.answer(lent, step, answer);
-        self.sound(lent, after);
+        self.question(lent, rows, step);
+        let after = self.answer(lent, rows, step, answer);
+        self.sound(lent, rows, after);
     }
 
-    fn answer(&mut self, lent: &Lent, step: Step, answer: u16) -> Step {
+    /// A step and a table out of the air: what comes back need not make sense, but it comes back.
+    fn made_up_table(&mut self, lent: &Lent) {
+        let room = self.random.below(lent.issuers.len() + 3);
+        let rows = self.random.list(room, made::row);
+        let step = made::step(&mut self.random, lent.issuers.len());
+        let answer = self.random.answer(50);
         self.calls += 1;
-        let after = lent.answer(step, answer);
+        lent.question(&rows, step);
+        let after = self.answer(lent, &rows, step, answer);
+        self.sound(lent, &rows, after);
+    }
+
+    fn answer(&mut self, lent: &Lent, rows: &[Row], step: Step, answer: u16) -> Step {
+        self.calls += 1;
+        let after = lent.answer(rows, step, answer);
         assert!(after.signatures <= step.signatures && after.extensions <= step.extensions && after.comparisons <= step.comparisons);
         after
     }
 
     /// What holds of every step that comes back.
-    fn sound(&mut self, lent: &Lent, step: Step) {
+    fn sound(&mut self, lent: &Lent, rows: &[Row], step: Step) {
         assert!((ASK..=SPENT).contains(&step.phase));
         assert!(step.depth < MOST_CERTIFICATES);
         if ![ASK, OFFER].contains(&step.phase) {
             let answer = self.random.next() as u16;
-            assert_eq!(self.answer(lent, step, answer), step, "an end stays what it is");
+            assert_eq!(self.answer(lent, rows, step, answer), step, "an end stays what it is");
         }
     }
 
-    fn question(&mut self, lent: &Lent, step: Step) -> Asked {
+    fn question(&mut self, lent: &Lent, rows: &[Row], step: Step) -> Asked {
         self.calls += 1;
-        let asked = lent.question(step);
+        let asked = lent.question(rows, step);
         let anchors = lent.subjects.len();
         let certificate = |number: usize| match number.checked_sub(anchors) {
             Some(number) if number < lent.issuers.len() => lent.issuers[number].as_slice(),

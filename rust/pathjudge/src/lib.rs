@@ -60,7 +60,7 @@ mod search;
 #[cfg(feature = "alloc")]
 pub use anchor::AnchorVec;
 pub use anchor::{Anchor, AnchorArray, Anchors};
-pub use ffi::Bytes;
+pub use ffi::{Bytes, Row};
 pub use refusal::{DerTypeId, Refusal};
 pub use request::{good_for, read, Budgets, Name, Purpose, Request};
 pub use search::{Answer, Key, Party, Path, Question, Search, Signatures, State};

@@ -1,9 +1,12 @@
 //! What is asked: a request, with the purpose, the name and the budgets that it speaks of.
 use crate::anchor::Anchors;
-use crate::ffi::{self, Bytes, Lent};
+use crate::ffi::{self, Bytes, Lent, Row};
 use crate::refusal::{self, Refusal};
 use crate::search::{Path, Search, Signatures, State};
 use core::net::IpAddr;
+
+/// For so many certificates, the end entity's among them, there is room without asking the caller for it.
+const USUAL_CERTIFICATES: usize = 8;
 
 /// Whether there is a path from an anchor to an end entity, and under which conditions.
 ///
@@ -32,11 +35,31 @@ pub struct Request<'a> {
 impl<'a> Request<'a> {
     /// Decides: the first path that keeps every rule, and that the caller is content with.
     ///
+    /// With more than seven intermediates [`judge_in`](Self::judge_in) is faster.
+    ///
     /// # Errors
     ///
     /// Of all the refusals that the search met, the one that says most; or the budget that was used up.
     pub fn judge(&self, signatures: &mut impl Signatures) -> Result<Path, Refusal> {
-        let mut search = Search::begin(*self);
+        self.judge_in(&mut [Row::EMPTY; USUAL_CERTIFICATES], signatures)
+    }
+
+    /// The same, with room for what is read of each certificate: a row for every intermediate, and one for the end entity. A certificate
+    /// without a row is read again each time it is looked at. The decision is the same with any number of rows, or none:
+    ///
+    /// ```
+    /// use pathjudge::{Path, Refusal, Request, Row, Signatures};
+    ///
+    /// fn judge(request: &Request, signatures: &mut impl Signatures) -> Result<Path, Refusal> {
+    ///     request.judge_in(&mut vec![Row::EMPTY; request.intermediates.len() + 1], signatures)
+    /// }
+    /// ```
+    ///
+    /// # Errors
+    ///
+    /// As of [`judge`](Self::judge).
+    pub fn judge_in(&self, rows: &mut [Row], signatures: &mut impl Signatures) -> Result<Path, Refusal> {
+        let mut search = Search::begin(*self, rows);
         loop {
             match search.state() {
                 State::Ask(question) => search.answer(signatures.check(&question)),

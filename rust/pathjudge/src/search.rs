@@ -1,5 +1,5 @@
 //! The search as a dialogue: what it asks, what it is answered, and the path that it finds.
-use crate::ffi::{Asked, Step, ASK, FOUND, MOST_CERTIFICATES, OFFER, REFUSED, SPENT};
+use crate::ffi::{Asked, Row, Step, ASK, FOUND, MOST_CERTIFICATES, OFFER, REFUSED, SPENT};
 use crate::refusal::{self, Refusal};
 use crate::request::{Budgets, Request};
 
@@ -139,19 +139,20 @@ pub enum State<'a> {
     Refused(Refusal),
 }
 
-/// A search, one question at a time: for a caller who cannot answer at once. [`Request::judge`] is the loop over it.
+/// A search, one question at a time: for a caller who cannot answer at once. [`Request::judge_in`] is the loop over it.
 #[derive(Clone, Copy, Debug)]
 pub struct Search<'a> {
     request: Request<'a>,
+    rows: &'a [Row],
     step: Step,
 }
 
 impl<'a> Search<'a> {
-    /// Begins the search that a request asks for.
-    pub fn begin(request: Request<'a>) -> Self {
+    /// Begins the search that a request asks for. `rows` are room for what is read of each certificate, as in [`Request::judge_in`].
+    pub fn begin(request: Request<'a>, rows: &'a mut [Row]) -> Self {
         let Budgets { signatures, extensions, comparisons } = request.budgets;
-        let step = request.lent().begin(signatures, extensions, comparisons);
-        Self { request, step }
+        let step = request.lent().begin(signatures, extensions, comparisons, rows);
+        Self { request, rows, step }
     }
 
     /// Where it stands.
@@ -169,14 +170,14 @@ impl<'a> Search<'a> {
     /// Answers a question. Where none is asked, nothing happens.
     pub fn answer(&mut self, answer: Answer) {
         if self.step.phase == ASK {
-            self.step = self.request.lent().answer(self.step, answer as u16);
+            self.step = self.request.lent().answer(self.rows, self.step, answer as u16);
         }
     }
 
     /// Answers an offer. Where none is made, nothing happens.
     pub fn reply(&mut self, content: Result<(), Refusal>) {
         if self.step.phase == OFFER {
-            self.step = self.request.lent().answer(self.step, content.err().map_or(0, Refusal::number));
+            self.step = self.request.lent().answer(self.rows, self.step, content.err().map_or(0, Refusal::number));
         }
     }
 
@@ -191,7 +192,7 @@ impl<'a> Search<'a> {
     }
 
     fn question(&self) -> Option<Question<'a>> {
-        let asked = self.request.lent().question(self.step);
+        let asked = self.request.lent().question(self.rows, self.step);
         if asked.refusal != 0 {
             return None;
         }

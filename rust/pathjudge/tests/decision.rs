@@ -1,8 +1,5 @@
 //! Decisions over the chain of three, through the public interface alone.
-use pathjudge::{
-    good_for, read, Anchor, AnchorArray, Answer, Budgets, Bytes, Key, Name, Party, Path, Purpose, Question, Refusal, Request, Search,
-    Signatures, State,
-};
+use pathjudge::{Anchor, AnchorArray, Answer, Budgets, Bytes, Key, Name, Party, Path, Purpose, Question, Refusal, Request, Row, Search, Signatures, State, good_for, read};
 use std::net::IpAddr;
 
 const ROOT: &[u8] = include_bytes!("chain/root.der");
@@ -118,7 +115,8 @@ fn a_refused_offer_lets_the_search_go_on() {
 #[test]
 fn an_answer_to_something_else_changes_nothing() {
     let anchors = AnchorArray::new([root()]);
-    let mut search = Search::begin(request(&anchors));
+    let mut rows = [Row::EMPTY; 2];
+    let mut search = Search::begin(request(&anchors), &mut rows);
     let first = search.state();
     assert!(matches!(first, State::Ask(_)));
     search.reply(Ok(()));
@@ -214,4 +212,14 @@ fn a_vector_of_anchors_is_an_array_of_them() {
     let path = request(&array).judge(&mut yes).expect("a path");
     assert_eq!(path.anchor(), 1);
     assert_eq!(Request { anchors: vector.list(), ..request(&array) }.judge(&mut yes), Ok(path));
+}
+
+#[test]
+fn the_decision_is_the_same_with_any_number_of_rows() {
+    let anchors = AnchorArray::new([root()]);
+    let request = request(&anchors);
+    let path = request.judge(&mut yes).expect("a path");
+    for count in 0..4 {
+        assert_eq!(request.judge_in(&mut vec![Row::EMPTY; count], &mut yes), Ok(path));
+    }
 }

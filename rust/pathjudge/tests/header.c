@@ -45,20 +45,23 @@ typedef struct {
     pathjudge_bytes subject, key, constraints, issuer, server;
     uint64_t time;
     const char *name;
+    size_t rows; /* of the table, at most ISSUERS + 1 */
+    pathjudge_row *table;
 } request;
 
 static pathjudge_step begun(const request *r) {
     uint8_t bound = 0;
     return pathjudge_begin(&r->issuer, ISSUERS, r->server.start, r->server.length, &r->subject, ANCHORS, &r->key, ANCHORS, &r->constraints,
                            ANCHORS, &bound, ANCHORS, none, 0, r->time, server_authentication, LENGTH(server_authentication), 0, PATHJUDGE_DNS,
-                           (const uint8_t *)r->name, strlen(r->name), PATHJUDGE_SIGNATURES, PATHJUDGE_EXTENSIONS, PATHJUDGE_COMPARISONS);
+                           (const uint8_t *)r->name, strlen(r->name), PATHJUDGE_SIGNATURES, PATHJUDGE_EXTENSIONS, PATHJUDGE_COMPARISONS,
+                           r->table, r->rows);
 }
 
 static pathjudge_step answered(const request *r, pathjudge_step step, uint16_t answer) {
     uint8_t bound = 0;
     return pathjudge_answer(&r->issuer, ISSUERS, r->server.start, r->server.length, &r->subject, ANCHORS, &r->key, ANCHORS, &r->constraints,
                             ANCHORS, &bound, ANCHORS, none, 0, r->time, server_authentication, LENGTH(server_authentication), 0, PATHJUDGE_DNS,
-                            (const uint8_t *)r->name, strlen(r->name), step, answer);
+                            (const uint8_t *)r->name, strlen(r->name), r->table, r->rows, step, answer);
 }
 
 /* The whole of it at once, over answers that are known. */
@@ -67,7 +70,7 @@ static pathjudge_step run(const request *r, const uint16_t *answers, size_t coun
     return pathjudge_judge(&r->issuer, ISSUERS, r->server.start, r->server.length, &r->subject, ANCHORS, &r->key, ANCHORS, &r->constraints,
                            ANCHORS, &bound, ANCHORS, none, 0, r->time, server_authentication, LENGTH(server_authentication), 0, PATHJUDGE_DNS,
                            (const uint8_t *)r->name, strlen(r->name), PATHJUDGE_SIGNATURES, PATHJUDGE_EXTENSIONS, PATHJUDGE_COMPARISONS,
-                           answers, count);
+                           r->table, r->rows, answers, count);
 }
 
 static pathjudge_bytes certificate(const request *r, size_t number) {
@@ -77,7 +80,7 @@ static pathjudge_bytes certificate(const request *r, size_t number) {
 /* The toy scheme: a signature is right if it is the key's own bits. */
 static uint16_t checked(const request *r, pathjudge_step step) {
     pathjudge_asked asked =
-        pathjudge_question(&r->issuer, ISSUERS, r->server.start, r->server.length, &r->key, ANCHORS, ANCHORS, step);
+        pathjudge_question(&r->issuer, ISSUERS, r->server.start, r->server.length, &r->key, ANCHORS, ANCHORS, r->table, r->rows, step);
     HOLDS(asked.refusal == 0 && asked.key_refusal == 0);
     pathjudge_bytes holder = asked.key < ANCHORS ? r->key : certificate(r, asked.key);
     pathjudge_bytes signed_by = certificate(r, asked.certificate);
@@ -111,8 +114,12 @@ int main(int count, char **names) {
     HOLDS(trusted.refusal == 0 && trusted.bound == 0);
     HOLDS(pathjudge_anchor(root.start, root.length - 1).refusal != 0);
 
-    request good = {part(root, trusted.subject), part(root, trusted.key), {root.start, 0}, issuer, server, TIME, "www.example.com"};
+    request good = {part(root, trusted.subject), part(root, trusted.key), {root.start, 0}, issuer, server, TIME, "www.example.com", 0, malloc((ISSUERS + 1) * sizeof(pathjudge_row))};
+    HOLDS(good.table);
+    pathjudge_step without = judged(&good);
+    good.rows = ISSUERS + 1;
     pathjudge_step step = judged(&good);
+    HOLDS(memcmp(&without, &step, offsetof(pathjudge_step, refusal) + sizeof step.refusal) == 0);
     HOLDS(step.phase == PATHJUDGE_FOUND && step.refusal == 0);
     HOLDS(step.anchor == 0 && step.depth == 1 && step.path[1] == ANCHORS);
     HOLDS(step.signatures == PATHJUDGE_SIGNATURES - 2 && step.extensions == PATHJUDGE_EXTENSIONS - 1);
@@ -148,7 +155,13 @@ int main(int count, char **names) {
     pathjudge_step made_up;
     memset(&made_up, 0xff, sizeof made_up);
     HOLDS(answered(&good, made_up, PATHJUDGE_YES).phase == PATHJUDGE_REFUSED);
+    /* what was in a table before it is filled does not matter, and one that nobody filled is harmless */
+    memset(good.table, 0xff, good.rows * sizeof(pathjudge_row));
+    HOLDS(judged(&good).phase == PATHJUDGE_FOUND);
+    memset(good.table, 0xff, good.rows * sizeof(pathjudge_row));
+    HOLDS(answered(&good, step, PATHJUDGE_YES).phase == PATHJUDGE_REFUSED);
 
+    free(good.table);
     free((void *)root.start);
     free((void *)issuer.start);
     free((void *)server.start);

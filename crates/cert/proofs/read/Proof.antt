@@ -1,4 +1,5 @@
-use Rattle.cert.specs.Model.{readCertificate, onParts, onBegun, onFound, onKept}
+use Rattle.extensions.specs.Model.{onKept}
+use Rattle.cert.specs.Model.{readCertificate, onParts, onBegun, onFound}
 use Rattle.cert.proofs.Cases.{read-case}
 use mathlib.Core.Path.{sym, _∙_}
 use Rattle.cert.proofs.read.Statement.{statement}

@@ -6,9 +6,9 @@ use native.Mathlib.Omega.{arith}
 use Rattle.der.specs.Places.{part}
 use Rattle.names.specs.Model.{generalName}
 use Rattle.names.proofs.Laws.{name-within}
-use Rattle.constraints.specs.Tally.{spend, clean}
+use Rattle.entries.specs.Tally.{spend, clean}
+use Rattle.entries.proofs.Spending.{Paying, begins, pays, refuses, stops, ends, at-once}
 use Rattle.constraints.specs.Model.{alternatives, nextName}
-use Rattle.constraints.proofs.Spending.{Paying, begins, pays, refuses, stops, ends, at-once}
 use Rattle.constraints.proofs.Laws.{next-found, next-broken}
 use Rattle.constraints.proofs.alternatives.Statement.{statement}
 use Rattle.constraints.proofs.alternatives.Tie as tie

@@ -1,73 +1,53 @@
 -- `constraints::certificate` meets its contract. Assumes nothing.
+use Prim.Native.Nat.{ℕ}
+use mathlib.Core.List.{List}
 use mathlib.Core.Path.{sym, ap, _∙_}
-use borrow.Author.Needs.{needs}
-use native.Mathlib.Omega.{arith}
-use Rattle.der.specs.Places.{part}
-use Rattle.constraints.specs.Tally.{spend}
-use Rattle.constraints.proofs.Spending.{at-once, refused-first, passed-first}
-use Rattle.cert.proofs.Laws.{read-inside}
+use Rattle.entries.specs.Tally.{spend}
+use Rattle.entries.proofs.Spending.{at-once, refused-first, passed-first}
+use Rattle.constraints.specs.Paths.{noted}
+use Rattle.constraints.specs.Model.{name}
 use Rattle.constraints.proofs.Turns.{certificate-is, certificate-unread}
 use Rattle.constraints.proofs.certificate.Statement.{statement}
 use Rattle.constraints.proofs.certificate.Tie as tie
 
-read-requires : tie.Need-read-requires
-read-requires c κs = search needs
-
-enum-known-c : tie.Need-enum-known-c
-enum-known-c c = search needs
+enum-known-reading : tie.Need-enum-known-reading
+enum-known-reading c = c .match .keys1
 
 alternatives-requires : tie.Need-alternatives-requires
-alternatives-requires c κs = search needs
+alternatives-requires c κs = tt
 
 returns : tie.Need-returns
 returns c =
-    let found = sym (c .before .before .before .before .before .before .before .before .read .ensures) ∙ c .before .before .before .before .before .before .c .given .1 in
-    refused-first _ _ _ _ (c .before .before .alternatives .ensures) (c .if1 .taken) ∙ ap (spend _) (sym (certificate-is _ _ _ _ found))
+    let a = c .before .before .before .before .before .before .before .before .before .before .args in
+    refused-first _ _ _ _ (c .before .before .alternatives .ensures) (c .if1 .taken) ∙ ap (spend _) (sym (certificate-is _ _ (noted (a .t .now) (a .reading)) _ (c .before .before .before .before .before .before .reading .given .1)))
 
-sub-name : tie.Need-sub-name
-sub-name c =
-    let found = sym (c .before .before .before .before .before .before .before .before .before .read .ensures) ∙ c .before .before .before .before .before .before .before .c .given .1 in
-    let w = read-inside _ (λ i. c .before .before .before .before .before .before .before .before .before .before .shared-slice-known2 .given i .fits) _ _ found .subject in
-    omega arith
-
-part-name-start : tie.Need-part-name-start
-part-name-start c =
-    let found = sym (c .before .before .before .before .before .before .before .before .before .read .ensures) ∙ c .before .before .before .before .before .before .before .c .given .1 in
-    let w = read-inside _ (λ i. c .before .before .before .before .before .before .before .before .before .before .shared-slice-known2 .given i .fits) _ _ found .subject in
-    omega arith
-
-part-name-end : tie.Need-part-name-end
-part-name-end c =
-    let found = sym (c .before .before .before .before .before .before .before .before .before .read .ensures) ∙ c .before .before .before .before .before .before .before .c .given .1 in
-    let w = read-inside _ (λ i. c .before .before .before .before .before .before .before .before .before .before .shared-slice-known2 .given i .fits) _ _ found .subject in
-    omega arith
+cut-requires : tie.Need-cut-requires
+cut-requires c κs = tt
 
 name-requires : tie.Need-name-requires
-name-requires c κs = search needs
+name-requires c κs = tt
 
 enum-told : tie.Need-enum-told
-enum-told c = search needs
+enum-told c = c .match .keys2
 
 returns-2 : tie.Need-returns-2
-unfolding part
 returns-2 c =
-    let found = sym (c .before .before .before .before .before .before .before .before .before .before .before .read .ensures) ∙ c .before .before .before .before .before .before .before .before .before .c .given .1 in
-    c .name .ensures ∙ passed-first _ _ _ _ (c .before .before .before .before .before .alternatives .ensures) (c .before .before .before .if1 .left) ∙ ap (spend _) (sym (certificate-is _ _ _ _ found))
+    let a = c .before .before .before .before .before .before .before .before .before .before .before .before .before .args in
+    c .name .ensures ∙ ap (λ (p : List ℕ). spend (c .before .before .before .before .before .alternatives .result .left) (name (a .s .now) (a .lists) 164 p)) (c .before .cut .ensures) ∙ passed-first _ _ _ _ (c .before .before .before .before .before .alternatives .ensures) (c .before .before .before .if1 .left) ∙ ap (spend _) (sym (certificate-is _ _ (noted (a .t .now) (a .reading)) _ (c .before .before .before .before .before .before .before .before .before .reading .given .1)))
 
 returns-3 : tie.Need-returns-3
-returns-3 c = sym (at-once _ _) ∙ ap (spend _) (sym (certificate-unread _ _ _ _ (sym (c .before .before .read .ensures) ∙ c .enum-told .given .1)))
+returns-3 c =
+    let a = c .before .before .before .before .args in
+    sym (at-once _ _) ∙ ap (spend _) (sym (certificate-unread _ _ (noted (a .t .now) (a .reading)) _ (c .enum-told .given .1)))
 
 pub certificate-spec : {M : Type 1} → statement M
 certificate-spec =
     tie.close
     (tie.spec
-    read-requires
-    enum-known-c
+    enum-known-reading
     alternatives-requires
     returns
-    sub-name
-    part-name-start
-    part-name-end
+    cut-requires
     name-requires
     enum-told
     returns-2

@@ -1,8 +1,8 @@
 -- `constraints::constrain` meets its contract. Assumes nothing.
 use mathlib.Core.Path.{sym, ap, _∙_}
 use borrow.Author.Needs.{needs}
-use Rattle.constraints.specs.Tally.{spend}
-use Rattle.constraints.proofs.Spending.{at-once, refused-first, passed-first}
+use Rattle.entries.specs.Tally.{spend}
+use Rattle.entries.proofs.Spending.{at-once, refused-first, passed-first}
 use Rattle.constraints.proofs.Turns.{passed-last, constraints-are, constraints-all, constraints-more, constraints-none}
 use Rattle.constraints.proofs.constrain.Statement.{statement}
 use Rattle.constraints.proofs.constrain.Tie as tie

@@ -1,8 +1,8 @@
 -- `constraints::name` meets its contract. Assumes nothing.
 use mathlib.Core.Path.{_∙_}
 use borrow.Author.Needs.{needs}
+use Rattle.entries.proofs.Spending.{refused-first, passed-first}
 use Rattle.constraints.specs.Model.{name}
-use Rattle.constraints.proofs.Spending.{refused-first, passed-first}
 use Rattle.constraints.proofs.name.Statement.{statement}
 use Rattle.constraints.proofs.name.Tie as tie
 

@@ -1,11 +1,17 @@
 -- `judge::pathjudge_begin` meets its contract. Assumes nothing.
-use Rattle.judge.proofs.Laws.{counted, begin-at, unread-at}
+use denote.Ref.{now}
+use lib.ListN.{length-map}
 use mathlib.Core.Path.{sym, _∙_}
+use borrow.Author.Needs.{needs}
+use Rattle.judge.proofs.Laws.{end-held, shown-held, started-held, counted, begin-at, unread-at}
 use Rattle.judge.proofs.pathjudge_begin.Statement.{statement}
 use Rattle.judge.proofs.pathjudge_begin.Tie as tie
 
-read-requires : tie.Need-read-requires
-read-requires c κs = tt
+fill-requires : tie.Need-fill-requires
+fill-requires c κs = tt
+
+reading-requires : tie.Need-reading-requires
+reading-requires c κs = tt
 
 enum-told : tie.Need-enum-told
 enum-told c = c .match .keys1
@@ -22,21 +28,36 @@ enum-known-e c = c .match .keys2
 ended-requires : tie.Need-ended-requires
 ended-requires c κs = tt
 
+same-length : tie.Need-same-length
+same-length c = search needs
+
 returns : tie.Need-returns
-returns c = begin-at _ _ _ (sym (c .before .before .before .before .read .ensures) ∙ c .before .before .enum-told .given .1) _ _ (c .shown .ensures) _ (counted (c .before .before .before .before .before .before .before .before .before .args .subjects .now) (c .before .before .before .before .before .before .before .before .before .args .issuers .now)) (c .before .start .ensures)
+returns c =
+    let a = c .before .before .before .before .before .before .before .before .before .before .before .before .before .before .before .args in
+    let h = c .before .before .before .before .before .before .before .before .before .fill .ensures in
+    (h, begin-at _ _ _ (sym (end-held _ _ _ h _ (sym (length-map (a .issuers .now) now))) ∙ sym (c .before .before .before .before .before .before .reading .ensures) ∙ c .before .before .before .before .enum-told .given .1) _ _ (shown-held _ _ _ h _ (sym (length-map (a .issuers .now) now)) _ _ _ _ (c .shown .ensures)) _ (counted (a .subjects .now) (a .issuers .now)) (started-held _ _ _ h _ _ _ _ _ _ _ _ _ (sym (length-map (a .subjects .now) now)) _ _ _ _ _ (c .before .before .start .ensures)))
+
+same-length-2 : tie.Need-same-length-2
+same-length-2 c = search needs
 
 returns-2 : tie.Need-returns-2
-returns-2 c = unread-at _ _ _ (sym (c .before .before .before .before .read .ensures) ∙ c .before .before .e .given .1) _ _ _ _ (c .ended .ensures)
+returns-2 c =
+    let a = c .before .before .before .before .before .before .before .before .before .before .before .before .before .args in
+    let h = c .before .before .before .before .before .before .before .fill .ensures in
+    (h, unread-at _ _ _ (sym (end-held _ _ _ h _ (sym (length-map (a .issuers .now) now))) ∙ sym (c .before .before .before .before .reading .ensures) ∙ c .before .before .e .given .1) _ _ _ _ (c .ended .ensures))
 
 pub pathjudge-begin-spec : {M : Type 1} → statement M
 pathjudge-begin-spec =
     tie.close
     (tie.spec
-    read-requires
+    fill-requires
+    reading-requires
     enum-told
     start-requires
     shown-requires
     enum-known-e
     ended-requires
+    same-length
     returns
+    same-length-2
     returns-2)

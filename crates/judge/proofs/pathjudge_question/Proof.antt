@@ -1,7 +1,6 @@
 -- `judge::pathjudge_question` meets its contract. Assumes nothing.
 use Rattle.judge.specs.Places.{nowhere, askedOf}
 use Rattle.judge.proofs.Laws.{asked-whole, asked-unopened, question-told}
-use Rattle.der.proofs.Laws.{tests}
 use Rattle.judge.proofs.pathjudge_question.Statement.{statement}
 use Rattle.judge.proofs.pathjudge_question.Tie as tie
 
@@ -36,14 +35,14 @@ filled-requires-3 : tie.Need-filled-requires-3
 filled-requires-3 c κs = tt
 
 returns : tie.Need-returns
-returns c = question-told _ _ _ _ _ _ _ _ _ (c .before .before .before .before .before .before .before .before .before .state-of .ensures) (c .before .before .before .before .before .before .before .before .asked .ensures) (c .before .before .before .before .before .before .before .question-of .ensures) (asked-whole _ _ _ _ _ _ _ _ 0 _ _ (c .before .before .before .before .before .signed .given .1) (c .before .before .parts .given .1) (c .filled .ensures))
+returns c h = question-told _ _ _ _ _ _ _ _ _ _ (c .before .before .before .before .before .before .before .before .before .state-of .ensures) (c .before .before .before .before .before .before .before .before .asked .ensures) (c .before .before .before .before .before .before .before .question-of .ensures) (asked-whole _ _ _ _ _ _ _ _ 0 _ _ (c .before .before .before .before .before .signed .given .1) (c .before .before .parts .given .1) (c .filled .ensures)) h
 
 returns-2 : tie.Need-returns-2
-returns-2 c = question-told _ _ _ _ _ _ _ _ _ (c .before .before .before .before .before .before .before .before .before .state-of .ensures) (c .before .before .before .before .before .before .before .before .asked .ensures) (c .before .before .before .before .before .before .before .question-of .ensures) (asked-unopened _ _ _ _ _ _ nowhere nowhere _ _ _ (c .before .before .before .before .before .signed .given .1) (c .before .before .parts2 .given .1) (c .filled2 .ensures))
+returns-2 c h = question-told _ _ _ _ _ _ _ _ _ _ (c .before .before .before .before .before .before .before .before .before .state-of .ensures) (c .before .before .before .before .before .before .before .before .asked .ensures) (c .before .before .before .before .before .before .before .question-of .ensures) (asked-unopened _ _ _ _ _ _ nowhere nowhere _ _ _ (c .before .before .before .before .before .signed .given .1) (c .before .before .parts2 .given .1) (c .filled2 .ensures)) h
 
 returns-3 : tie.Need-returns-3
 unfolding askedOf
-returns-3 c = question-told _ _ _ _ _ _ _ _ _ (c .before .before .before .before .before .before .state-of .ensures) (c .before .before .before .before .before .asked .ensures) (c .before .before .before .before .question-of .ensures) (search (tests, c .before .before .e .given .1, c .filled3 .ensures))
+returns-3 c h = question-told _ _ _ _ _ _ _ _ _ _ (c .before .before .before .before .before .before .state-of .ensures) (c .before .before .before .before .before .asked .ensures) (c .before .before .before .before .question-of .ensures) (rw (c .before .before .e .given .1) (c .filled3 .ensures)) h
 
 pub pathjudge-question-spec : {M : Type 1} → statement M
 pathjudge-question-spec =

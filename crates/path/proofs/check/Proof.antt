@@ -10,11 +10,14 @@ number-at-requires c κs = tt
 certificate-requires : tie.Need-certificate-requires
 certificate-requires c κs = tt
 
+reading-requires : tie.Need-reading-requires
+reading-requires c κs = tt
+
 check-certificate-requires : tie.Need-check-certificate-requires
 check-certificate-requires c κs = tt
 
 returns : tie.Need-returns
-returns c = c .check-certificate .ensures ∙ check-end _ _ (c .before .before .before .before .before .before .args .path) _ _ _ _ _ _ (c .before .before .before .number-at .ensures) (c .before .before .certificate .ensures) (c .before .if1 .taken)
+returns c = c .check-certificate .ensures ∙ check-end _ _ _ (c .before .before .before .before .before .before .before .args .path) _ _ _ _ _ _ (c .before .before .before .before .number-at .ensures) (c .before .before .before .certificate .ensures) (c .before .before .reading .ensures) (c .before .if1 .taken)
 
 sub-check-certificate : tie.Need-sub-check-certificate
 sub-check-certificate c = search needs
@@ -23,7 +26,7 @@ check-certificate-requires-2 : tie.Need-check-certificate-requires-2
 check-certificate-requires-2 c κs = tt
 
 returns-2 : tie.Need-returns-2
-returns-2 c = c .check-certificate2 .ensures ∙ check-issuer _ _ (c .before .before .before .before .before .before .args .path) _ _ _ _ _ _ (c .before .before .before .number-at .ensures) (c .before .before .certificate .ensures) (c .before .if1 .left)
+returns-2 c = c .check-certificate2 .ensures ∙ check-issuer _ _ _ (c .before .before .before .before .before .before .before .args .path) _ _ _ _ _ _ (c .before .before .before .before .number-at .ensures) (c .before .before .before .certificate .ensures) (c .before .before .reading .ensures) (c .before .if1 .left)
 
 pub check-spec : {M : Type 1} → statement M
 check-spec =
@@ -31,6 +34,7 @@ check-spec =
     (tie.spec
     number-at-requires
     certificate-requires
+    reading-requires
     check-certificate-requires
     returns
     sub-check-certificate

@@ -1,14 +1,15 @@
 -- `search::answer` meets its contract. Assumes nothing.
-use Rattle.search.proofs.Whole.{answered}
-use Rattle.search.proofs.Lent.{judges}
-use Rattle.search.specs.World.{worldOf}
-use Rattle.search.specs.declared.Phase.the-variants.{Walk}
-use Rattle.search.specs.declared.Phase.{Phase}
+use Rattle.machine.proofs.Whole.{answered}
+use Rattle.machine.proofs.Lent.{judges}
+use Rattle.machine.specs.World.{worldIn}
+use Rattle.machine.specs.declared.Phase.the-variants.{Walk}
+use Rattle.machine.specs.declared.Phase.{Phase}
 use denote.Enum.Declared.{tagOf}
 use types.Run.{OneOf, miss}
 use mathlib.Core.Path.{subst}
 use lib.ListN.{length, length-map}
 use denote.Ref.{now}
+use Rattle.lent.specs.Lent.{readingsIn}
 use mathlib.Core.List.{[], _∷_, map}
 use native.Mathlib.Omega.{arith}
 use mathlib.Core.Path.{_≡_, sym}
@@ -16,8 +17,8 @@ use borrow.Author.Needs.{needs}
 use Rattle.search.proofs.answer.Statement.{statement}
 use Rattle.search.proofs.answer.Tie as tie
 
-not-walk : (ph : Phase) → OneOf (1 ∷ 2 ∷ 3 ∷ 4 ∷ 5 ∷ []) (tagOf Rattle.search.proofs.Phase.the-type ph) → ph ≡ Walk → ⊥
-not-walk ph k h = miss (1 ∷ 2 ∷ 3 ∷ 4 ∷ 5 ∷ []) 0 tt (subst (λ (p : Phase). OneOf (1 ∷ 2 ∷ 3 ∷ 4 ∷ 5 ∷ []) (tagOf Rattle.search.proofs.Phase.the-type p)) h k)
+not-walk : (ph : Phase) → OneOf (1 ∷ 2 ∷ 3 ∷ 4 ∷ 5 ∷ []) (tagOf Rattle.machine.proofs.Phase.the-type ph) → ph ≡ Walk → ⊥
+not-walk ph k h = miss (1 ∷ 2 ∷ 3 ∷ 4 ∷ 5 ∷ []) 0 tt (subst (λ (p : Phase). OneOf (1 ∷ 2 ∷ 3 ∷ 4 ∷ 5 ∷ []) (tagOf Rattle.machine.proofs.Phase.the-type p)) h k)
 
 returns : tie.Need-returns
 returns c deep halts = absurd (omega (arith, deep, c .if1 .taken))
@@ -34,13 +35,13 @@ reply-requires c κs = (omega (arith, c .before .if1 .left), not-walk (c .before
 advance-requires : tie.Need-advance-requires
 advance-requires c κs =
     let a = c .before .before .before .before .before .before .before .args in
-    c .reply .ensures (worldOf (map now (a .issuers .now)) (a .end .now) (map now (a .subjects .now)) (map now (a .keys .now)) (map now (a .constraints .now)) (a .bound .now) (map now (a .distrusted .now)) (a .time) (a .wanted .now) (a .demanded)) (judges (map now (a .issuers .now)) (a .end .now) (map now (a .subjects .now)) (map now (a .keys .now)) (map now (a .constraints .now)) (a .bound .now) (map now (a .distrusted .now)) (a .time) (a .wanted .now) (a .demanded) (length (a .subjects .now)) (sym (length-map (a .subjects .now) now))) .deep
+    c .reply .ensures (worldIn (readingsIn (a .table .now) (map now (a .issuers .now)) (a .end .now) (length (a .subjects .now))) (map now (a .issuers .now)) (a .end .now) (map now (a .subjects .now)) (map now (a .keys .now)) (map now (a .constraints .now)) (a .bound .now) (map now (a .distrusted .now)) (a .time) (a .wanted .now) (a .demanded)) (judges (readingsIn (a .table .now) (map now (a .issuers .now)) (a .end .now) (length (a .subjects .now))) (map now (a .issuers .now)) (a .end .now) (map now (a .subjects .now)) (map now (a .keys .now)) (map now (a .constraints .now)) (a .bound .now) (map now (a .distrusted .now)) (a .time) (a .wanted .now) (a .demanded) (length (a .subjects .now)) (sym (length-map (a .subjects .now) now))) .deep
 
 returns-3 : tie.Need-returns-3
 returns-3 c deep halts =
     let a = c .before .before .before .before .before .before .before .before .args in
-    let W = worldOf (map now (a .issuers .now)) (a .end .now) (map now (a .subjects .now)) (map now (a .keys .now)) (map now (a .constraints .now)) (a .bound .now) (map now (a .distrusted .now)) (a .time) (a .wanted .now) (a .demanded) in
-    answered W (a .s) (c .before .reply .result) (c .advance .result) (a .given) (c .before .reply .ensures W (judges (map now (a .issuers .now)) (a .end .now) (map now (a .subjects .now)) (map now (a .keys .now)) (map now (a .constraints .now)) (a .bound .now) (map now (a .distrusted .now)) (a .time) (a .wanted .now) (a .demanded) (length (a .subjects .now)) (sym (length-map (a .subjects .now) now)))) (c .advance .ensures (map now (a .constraints .now)) (a .bound .now))
+    let W = worldIn (readingsIn (a .table .now) (map now (a .issuers .now)) (a .end .now) (length (a .subjects .now))) (map now (a .issuers .now)) (a .end .now) (map now (a .subjects .now)) (map now (a .keys .now)) (map now (a .constraints .now)) (a .bound .now) (map now (a .distrusted .now)) (a .time) (a .wanted .now) (a .demanded) in
+    answered W (a .s) (c .before .reply .result) (c .advance .result) (a .given) (c .before .reply .ensures W (judges (readingsIn (a .table .now) (map now (a .issuers .now)) (a .end .now) (length (a .subjects .now))) (map now (a .issuers .now)) (a .end .now) (map now (a .subjects .now)) (map now (a .keys .now)) (map now (a .constraints .now)) (a .bound .now) (map now (a .distrusted .now)) (a .time) (a .wanted .now) (a .demanded) (length (a .subjects .now)) (sym (length-map (a .subjects .now) now)))) (c .advance .ensures (map now (a .constraints .now)) (a .bound .now))
 
 pub answer-spec : {M : Type 1} → statement M
 answer-spec =

@@ -1,5 +1,5 @@
 //! Made-up input: numbers, certificates, requests and steps, the same in every run.
-use crate::ffi::{self, Bytes, Lent, Step, MOST_CERTIFICATES};
+use crate::ffi::{self, Bytes, Lent, Row, Step, MOST_CERTIFICATES};
 use crate::request::Purpose;
 use std::boxed::Box;
 use std::vec;
@@ -51,7 +51,7 @@ impl Random {
         (0..self.below(most + 1)).map(|_| self.next() as u8).collect()
     }
 
-    fn list<T>(&mut self, length: usize, mut make: impl FnMut(&mut Self) -> T) -> Vec<T> {
+    pub fn list<T>(&mut self, length: usize, mut make: impl FnMut(&mut Self) -> T) -> Vec<T> {
         (0..length).map(|_| make(self)).collect()
     }
 }
@@ -252,6 +252,13 @@ impl World {
             name: self.name,
         });
     }
+}
+
+/// A row that need not be one of any certificate: small numbers mostly, often one that is said to be accepted.
+pub fn row(random: &mut Random) -> Row {
+    const USUAL: usize = 160;
+    let mut first = random.percent(80);
+    Row::of(|()| if std::mem::take(&mut first) { 0 } else { random.number(USUAL) })
 }
 
 /// A step that need not be one of any search. With many certificates and no budget a search would be long, so then there is one.

@@ -1,30 +1,32 @@
 -- `search::walk::advance` meets its contract. Assumes nothing.
-use Rattle.search.specs.World.{worldOf}
-use Rattle.search.specs.Machine.{effort, Walked, Ran, move}
-use Rattle.search.specs.declared.Phase.the-variants.{Walk}
-use Rattle.search.specs.declared.Phase.{Phase}
+use Rattle.machine.specs.World.{worldIn}
+use Rattle.machine.specs.Machine.{effort, Walked, Ran, move}
+use Rattle.machine.specs.declared.Phase.the-variants.{Walk}
+use Rattle.machine.specs.declared.Phase.{Phase}
 use mathlib.Core.Path.{subst}
 use borrow.Author.Needs.{needs}
 use denote.Enum.Declared.{tagOf}
 use types.Run.{OneOf, miss}
 use Prim.Native.Nat.{ℕ, suc, _<_}
 use denote.Ref.{now}
+use Rattle.lent.specs.Lent.{readingsIn}
+use lib.ListN.{length}
 use mathlib.Core.List.{List, [], _∷_, map, append-nil}
 use native.Mathlib.Omega.{arith}
 use mathlib.Core.Path.{_≡_, refl, sym, _∙_}
 use Rattle.search.proofs.walk.advance.Statement.{statement}
 use Rattle.search.proofs.walk.advance.Tie as tie
 
-not-walk : (ph : Phase) → OneOf (1 ∷ 2 ∷ 3 ∷ 4 ∷ 5 ∷ []) (tagOf Rattle.search.proofs.Phase.the-type ph) → ph ≡ Walk → ⊥
-not-walk ph k h = miss (1 ∷ 2 ∷ 3 ∷ 4 ∷ 5 ∷ []) 0 tt (subst (λ (p : Phase). OneOf (1 ∷ 2 ∷ 3 ∷ 4 ∷ 5 ∷ []) (tagOf Rattle.search.proofs.Phase.the-type p)) h k)
+not-walk : (ph : Phase) → OneOf (1 ∷ 2 ∷ 3 ∷ 4 ∷ 5 ∷ []) (tagOf Rattle.machine.proofs.Phase.the-type ph) → ph ≡ Walk → ⊥
+not-walk ph k h = miss (1 ∷ 2 ∷ 3 ∷ 4 ∷ 5 ∷ []) 0 tt (subst (λ (p : Phase). OneOf (1 ∷ 2 ∷ 3 ∷ 4 ∷ 5 ∷ []) (tagOf Rattle.machine.proofs.Phase.the-type p)) h k)
 
 abbrev Inv-loop : tie.InvT-loop
-Inv-loop issuers end subjects keys distrusted time wanted demanded t₀ t =
-    (t .depth < 7) × ((C : List (List ℕ)) (B : List ℕ) → Walked (worldOf (map now issuers) end (map now subjects) (map now keys) C B (map now distrusted) time wanted demanded) t₀ t)
+Inv-loop table issuers end subjects keys distrusted time wanted demanded t₀ t =
+    (t .depth < 7) × ((C : List (List ℕ)) (B : List ℕ) → Walked (worldIn (readingsIn table (map now issuers) end (length subjects)) (map now issuers) end (map now subjects) (map now keys) C B (map now distrusted) time wanted demanded) t₀ t)
 
 abbrev μ-loop : tie.MeasureT-loop
-μ-loop issuers end subjects keys distrusted time wanted demanded t₀ t =
-    effort (worldOf (map now issuers) end (map now subjects) (map now keys) [] [] (map now distrusted) time wanted demanded) t
+μ-loop table issuers end subjects keys distrusted time wanted demanded t₀ t =
+    effort (worldIn (readingsIn table (map now issuers) end (length subjects)) (map now issuers) end (map now subjects) (map now keys) [] [] (map now distrusted) time wanted demanded) t
 
 loop-holds : tie.Need-loop-holds Inv-loop μ-loop
 loop-holds c = (c .before .before .pre, λ C B. record { same = refl; most = omega arith; ran = λ s₀ said n h. (n, h) })
@@ -55,7 +57,7 @@ returns : tie.Need-returns Inv-loop μ-loop
 returns c C B =
     let i = c .before .loop .inv in
     let a = c .before .before .before .before .args in
-    let W = worldOf (map now (a .issuers .now)) (a .end .now) (map now (a .subjects .now)) (map now (a .keys .now)) C B (map now (a .distrusted .now)) (a .time) (a .wanted .now) (a .demanded) in
+    let W = worldIn (readingsIn (a .table .now) (map now (a .issuers .now)) (a .end .now) (length (a .subjects .now))) (map now (a .issuers .now)) (a .end .now) (map now (a .subjects .now)) (map now (a .keys .now)) C B (map now (a .distrusted .now)) (a .time) (a .wanted .now) (a .demanded) in
     record {
       same = i .1 C B .same;
       deep = i .0;

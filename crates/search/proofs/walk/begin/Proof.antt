@@ -1,5 +1,5 @@
 -- `search::walk::begin` meets its contract. Assumes nothing.
-use Rattle.search.proofs.Moves.{try-out, try-asks}
+use Rattle.machine.proofs.Moves.{try-out, try-asks}
 use borrow.Author.Needs.{needs}
 use Rattle.search.proofs.walk.begin.Statement.{statement}
 use Rattle.search.proofs.walk.begin.Tie as tie

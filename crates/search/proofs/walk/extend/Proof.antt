@@ -1,8 +1,9 @@
 -- `search::walk::extend` meets its contract. Assumes nothing.
-use Rattle.search.proofs.Moves.{extend-out, extend-deep, extend-refused, extend-goes}
-use Rattle.search.proofs.Lent.{checks-push}
+use Rattle.machine.proofs.Moves.{extend-out, extend-deep, extend-refused, extend-goes}
+use Rattle.machine.proofs.Lent.{checks-push}
 use lib.ListN.{length}
 use denote.Ref.{now}
+use Rattle.lent.specs.Lent.{readingsIn}
 use mathlib.Core.List.{map}
 use native.Mathlib.Omega.{arith}
 use mathlib.Core.Path.{_≡_, _∙_}
@@ -22,8 +23,8 @@ returns c W h = extend-out W (c .before .before .before .before .before .args .s
 worse-requires : tie.Need-worse-requires
 worse-requires c κs = search needs
 
-sub-t29 : tie.Need-sub-t29
-sub-t29 c = search needs
+sub-t30 : tie.Need-sub-t30
+sub-t30 c = search needs
 
 returns-2 : tie.Need-returns-2
 returns-2 c W h = extend-deep W (c .before .before .before .before .before .before .before .args .s) (c .before .before .before .before .before .before .before .pre .0) (c .before .before .before .before .before .before .before .args .i) (c .before .before .before .before .before .before .before .pre .1) (c .before .before .before .before .if1 .left) (c .before .before .worse .result) (c .before .before .worse .ensures) (c .before .before .before .if2 .taken)
@@ -46,8 +47,8 @@ check-requires c κs = search needs
 worse-requires-2 : tie.Need-worse-requires-2
 worse-requires-2 c κs = search needs
 
-sub-t43 : tie.Need-sub-t43
-sub-t43 c = search needs
+sub-t44 : tie.Need-sub-t44
+sub-t44 c = search needs
 
 returns-3 : tie.Need-returns-3
 returns-3 c W h =
@@ -55,7 +56,7 @@ returns-3 c W h =
     let p = c .before .before .before .before .before .before .before .before .before .before .before .pre in
     let room = c .before .before .before .before .before .before .before .if2 .left in
     extend-refused W (a .s) (p .0) (a .i) (p .1) (c .before .before .before .before .before .before .before .before .if1 .left) (c .before .before .before .before .check .result) (c .before .before .worse2 .result) (c .before .before .worse2 .ensures) room
-    (checks-push W (map now (a .issuers .now)) (a .end .now) (a .anchors) (map now (a .distrusted .now)) (a .time) (a .wanted .now) (a .demanded) h (a .s .path) (a .s .depth) (a .i) (c .before .before .before .before .check .result) (omega (arith, long-path (c .before .before .before .before .before .before .before .before .before .before .before), p .0, room)) (c .before .before .before .before .check .ensures))
+    (checks-push W (readingsIn (a .table .now) (map now (a .issuers .now)) (a .end .now) (a .anchors)) (map now (a .issuers .now)) (a .end .now) (a .anchors) (map now (a .distrusted .now)) (a .time) (a .wanted .now) (a .demanded) h (a .s .path) (a .s .depth) (a .i) (c .before .before .before .before .check .result) (omega (arith, long-path (c .before .before .before .before .before .before .before .before .before .before .before), p .0, room)) (c .before .before .before .before .check .ensures))
     (c .before .before .before .if3 .taken)
 
 add-next : tie.Need-add-next
@@ -67,11 +68,11 @@ mul-next c = search needs
 array-write-next : tie.Need-array-write-next
 array-write-next c = search needs
 
-add-t39 : tie.Need-add-t39
-add-t39 c = search needs
+add-t40 : tie.Need-add-t40
+add-t40 c = search needs
 
-sub-t55 : tie.Need-sub-t55
-sub-t55 c = search needs
+sub-t56 : tie.Need-sub-t56
+sub-t56 c = search needs
 
 returns-4 : tie.Need-returns-4
 returns-4 c W h =
@@ -79,7 +80,7 @@ returns-4 c W h =
     let p = c .before .before .before .before .before .before .before .before .pre in
     let room = c .before .before .before .before .if2 .left in
     extend-goes W (a .s) (p .0) (a .i) (p .1) (c .before .before .before .before .before .if1 .left) (long-path (c .before .before .before .before .before .before .before .before)) (long-next (c .before .before .before .before .before .before .before .before)) room
-    (checks-push W (map now (a .issuers .now)) (a .end .now) (a .anchors) (map now (a .distrusted .now)) (a .time) (a .wanted .now) (a .demanded) h (a .s .path) (a .s .depth) (a .i) (c .before .check .result) (omega (arith, long-path (c .before .before .before .before .before .before .before .before), p .0, room)) (c .before .check .ensures)
+    (checks-push W (readingsIn (a .table .now) (map now (a .issuers .now)) (a .end .now) (a .anchors)) (map now (a .issuers .now)) (a .end .now) (a .anchors) (map now (a .distrusted .now)) (a .time) (a .wanted .now) (a .demanded) h (a .s .path) (a .s .depth) (a .i) (c .before .check .result) (omega (arith, long-path (c .before .before .before .before .before .before .before .before), p .0, room)) (c .before .check .ensures)
     ∙ c .if3 .left)
 
 pub extend-spec : {M : Type 1} → statement M
@@ -88,7 +89,7 @@ extend-spec =
     (tie.spec
     returns
     worse-requires
-    sub-t29
+    sub-t30
     returns-2
     add-numbers
     mul-numbers
@@ -96,11 +97,11 @@ extend-spec =
     add-check
     check-requires
     worse-requires-2
-    sub-t43
+    sub-t44
     returns-3
     add-next
     mul-next
     array-write-next
-    add-t39
-    sub-t55
+    add-t40
+    sub-t56
     returns-4)

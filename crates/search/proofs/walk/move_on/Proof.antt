@@ -1,10 +1,11 @@
 -- `search::walk::move_on` meets its contract. Assumes nothing.
-use Rattle.search.proofs.Moves.{over, pops, notes, tries, extends}
-use Rattle.search.specs.World.{worldOf}
-use Rattle.path.specs.Model.{checkOn}
+use Rattle.machine.proofs.Moves.{over, pops, notes, tries, extends}
+use Rattle.machine.specs.World.{worldIn}
+use Rattle.path.specs.Model.{checkIn}
 use lib.ListN.{length, length-map}
 use Prim.Native.Nat.{ℕ}
 use denote.Ref.{now}
+use Rattle.lent.specs.Lent.{readingsIn}
 use mathlib.Core.List.{map}
 use native.Mathlib.Omega.{arith}
 use mathlib.Core.Path.{_≡_, refl, sym, ap, _∙_}
@@ -25,22 +26,22 @@ add-if1 : tie.Need-add-if1
 add-if1 c = search needs
 
 returns : tie.Need-returns
-unfolding worldOf
+unfolding worldIn
 returns c C B =
     let a = c .before .before .before .before .before .before .before .before .args in
     let p = c .before .before .before .before .before .before .before .before .pre in
-    let W = worldOf (map now (a .issuers .now)) (a .end .now) (map now (a .subjects .now)) (map now (a .keys .now)) C B (map now (a .distrusted .now)) (a .time) (a .wanted .now) (a .demanded) in
+    let W = worldIn (readingsIn (a .table .now) (map now (a .issuers .now)) (a .end .now) (length (a .subjects .now))) (map now (a .issuers .now)) (a .end .now) (map now (a .subjects .now)) (map now (a .keys .now)) C B (map now (a .distrusted .now)) (a .time) (a .wanted .now) (a .demanded) in
     over W (a .s) (p .0) (p .1) (omega (arith, c .before .before .before .if1 .taken, length-map (a .subjects .now) now, length-map (a .issuers .now) now)) (c .before .before .if2 .taken)
 
-sub-t35 : tie.Need-sub-t35
-sub-t35 c = search needs
+sub-t36 : tie.Need-sub-t36
+sub-t36 c = search needs
 
 returns-2 : tie.Need-returns-2
-unfolding worldOf
+unfolding worldIn
 returns-2 c C B =
     let a = c .before .before .before .before .before .before .before .before .args in
     let p = c .before .before .before .before .before .before .before .before .pre in
-    let W = worldOf (map now (a .issuers .now)) (a .end .now) (map now (a .subjects .now)) (map now (a .keys .now)) C B (map now (a .distrusted .now)) (a .time) (a .wanted .now) (a .demanded) in
+    let W = worldIn (readingsIn (a .table .now) (map now (a .issuers .now)) (a .end .now) (length (a .subjects .now))) (map now (a .issuers .now)) (a .end .now) (map now (a .subjects .now)) (map now (a .keys .now)) C B (map now (a .distrusted .now)) (a .time) (a .wanted .now) (a .demanded) in
     pops W (a .s) (p .0) (p .1) (omega (arith, c .before .before .before .if1 .taken, length-map (a .subjects .now) now, length-map (a .issuers .now) now)) (c .before .before .if2 .left)
 
 add-next : tie.Need-add-next
@@ -74,29 +75,29 @@ extend-requires : tie.Need-extend-requires
 extend-requires c κs = search needs
 
 returns-3 : tie.Need-returns-3
-unfolding worldOf
+unfolding worldIn
 returns-3 c C B =
     let a = c .before .before .before .before .before .before .before .before .before .before .before .before .before .args in
     let p = c .before .before .before .before .before .before .before .before .before .before .before .before .before .pre in
-    let W = worldOf (map now (a .issuers .now)) (a .end .now) (map now (a .subjects .now)) (map now (a .keys .now)) C B (map now (a .distrusted .now)) (a .time) (a .wanted .now) (a .demanded) in
+    let W = worldIn (readingsIn (a .table .now) (map now (a .issuers .now)) (a .end .now) (length (a .subjects .now))) (map now (a .issuers .now)) (a .end .now) (map now (a .subjects .now)) (map now (a .keys .now)) C B (map now (a .distrusted .now)) (a .time) (a .wanted .now) (a .demanded) in
     notes W (a .s) (p .0) (p .1) (omega (arith, c .before .before .before .before .before .before .before .before .if1 .left, length-map (a .subjects .now) now, length-map (a .issuers .now) now)) (long (c .before .before .before .before .before .before .before .before .before .before .before .before .before)) (c .before .before .before .before .e .given .0 .0) (c .before .before .worse .result) (c .before .before .worse .ensures) (sym (c .before .before .before .before .before .before .verdict-on .ensures) ∙ c .before .before .before .before .e .given .1)
 
 returns-4 : tie.Need-returns-4
-unfolding worldOf
+unfolding worldIn
 returns-4 c C B =
     let a = c .before .before .before .before .before .before .before .before .before .before .args in
     let p = c .before .before .before .before .before .before .before .before .before .before .pre in
-    let W = worldOf (map now (a .issuers .now)) (a .end .now) (map now (a .subjects .now)) (map now (a .keys .now)) C B (map now (a .distrusted .now)) (a .time) (a .wanted .now) (a .demanded) in
+    let W = worldIn (readingsIn (a .table .now) (map now (a .issuers .now)) (a .end .now) (length (a .subjects .now))) (map now (a .issuers .now)) (a .end .now) (map now (a .subjects .now)) (map now (a .keys .now)) C B (map now (a .distrusted .now)) (a .time) (a .wanted .now) (a .demanded) in
     tries W (a .s) (p .0) (p .1) (omega (arith, c .before .before .before .before .before .if1 .left, length-map (a .subjects .now) now, length-map (a .issuers .now) now)) (long (c .before .before .before .before .before .before .before .before .before .before)) (c .begin .result) (sym (c .before .before .before .verdict-on .ensures) ∙ c .before .enum-told .given .1) (c .begin .ensures W (λ k q. refl))
 
 returns-5 : tie.Need-returns-5
-unfolding worldOf
+unfolding worldIn
 returns-5 c C B =
     let a = c .before .before .before .before .before .before .before .before .before .before .args in
     let p = c .before .before .before .before .before .before .before .before .before .before .pre in
-    let W = worldOf (map now (a .issuers .now)) (a .end .now) (map now (a .subjects .now)) (map now (a .keys .now)) C B (map now (a .distrusted .now)) (a .time) (a .wanted .now) (a .demanded) in
+    let W = worldIn (readingsIn (a .table .now) (map now (a .issuers .now)) (a .end .now) (length (a .subjects .now))) (map now (a .issuers .now)) (a .end .now) (map now (a .subjects .now)) (map now (a .keys .now)) C B (map now (a .distrusted .now)) (a .time) (a .wanted .now) (a .demanded) in
     extends W (a .s) (p .0) (p .1) (omega (arith, c .before .before .before .before .before .if1 .left, length-map (a .subjects .now) now, length-map (a .issuers .now) now)) (long (c .before .before .before .before .before .before .before .before .before .before)) (c .extend .result) (sym (c .before .before .before .verdict-on .ensures) ∙ c .before .enum-told2 .given .1)
-    (c .extend .ensures W (λ q. ap (λ (n : ℕ). checkOn (map now (a .issuers .now)) (a .end .now) n (map now (a .distrusted .now)) (a .time) (a .wanted .now) (a .demanded) q) (length-map (a .subjects .now) now)))
+    (c .extend .ensures W (λ q. ap (λ (n : ℕ). checkIn (readingsIn (a .table .now) (map now (a .issuers .now)) (a .end .now) (length (a .subjects .now))) (map now (a .issuers .now)) (a .end .now) n (map now (a .distrusted .now)) (a .time) (a .wanted .now) (a .demanded) q) (length-map (a .subjects .now) now)))
 
 pub move-on-spec : {M : Type 1} → statement M
 move-on-spec =
@@ -106,7 +107,7 @@ move-on-spec =
     array-read-i
     add-if1
     returns
-    sub-t35
+    sub-t36
     returns-2
     add-next
     mul-next

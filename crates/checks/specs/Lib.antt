@@ -1,0 +1,3 @@
+pub mod Conditions
+pub mod Skeletons
+pub mod Model

@@ -1,0 +1,3 @@
+pub mod Spending
+pub mod Laws
+pub mod Refusals

@@ -1,0 +1,11 @@
+pub mod Cases
+pub mod Inversion
+pub mod Steps
+pub mod Value
+pub mod Small
+pub mod Numbers
+pub mod Slots
+pub mod Sound
+pub mod Complete
+pub mod Unique
+pub mod Refusals

@@ -1,0 +1,3 @@
+pub mod Model
+pub mod Rfc5280
+pub mod Layout

@@ -1,0 +1,4 @@
+pub mod Der
+pub mod Values
+pub mod Extensions
+pub mod Certificates

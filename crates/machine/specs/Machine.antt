@@ -1,0 +1,197 @@
+-- What a state of the machine stands for: the tree of questions that is left.
+use Prim.Native.Nat.{ℕ, suc, _+_, _-_, _*_, _≤_, _<_}
+use mathlib.Core.Path.{_≡_}
+use mathlib.Core.Bool.{cond}
+use mathlib.Core.List.{List, [], _∷_, _++_}
+use mathlib.Core.Logic.{_⊎_}
+use lib.Dec.{ltb}
+use lib.ListN.{getD, set}
+use Rattle.refusal.specs.Refusals.{unknownIssuer}
+use Rattle.refusal.specs.Model.{worseOf}
+use Rattle.lent.specs.Lent.{mostIntermediates, lower, pre}
+use Rattle.machine.specs.declared.State.{State}
+use Rattle.machine.specs.declared.Phase.{Phase}
+use Rattle.machine.specs.declared.Phase.the-variants.{Walk, Ask, Offer, Found, Refused, Spent}
+use Rattle.dialogue.specs.Model.{Path, World, signatures, Event, extension, try, accepted, refused, spent, Tree, done, ask, offer, unless, enter, through, conclude, run, search}
+use Rattle.dialogue.specs.Dialogue.{give}
+use Rattle.dialogue.specs.Work.{paid}
+use Rattle.machine.specs.Levels.{remaining}
+
+abbrev pub left : World → State → List Event
+left W s = remaining W (s .path) (s .next) (s .depth)
+
+abbrev pub here : State → Path
+here s = pre (s .path) (s .depth)
+
+-- the walk from a state on, with what is left of the budgets of signatures and of comparisons, and the refusal so far
+abbrev pub onward : World → State → ℕ → ℕ → ℕ → Tree
+onward W s g n e = run W (left W s) g (s .extensions) n e
+
+abbrev pub clearTree : World → State → ℕ → Tree
+clearTree W s g = conclude W (λ x n. onward W s g n (worseOf (s .best) x)) (s .anchor) (here s) (s .comparisons)
+
+abbrev pub wrongTree : World → State → ℕ → ℕ → Tree
+wrongTree W s x g = onward W s g (s .comparisons) (worseOf (s .best) x)
+
+-- the place in the path of the certificate that a question is about: at most the highest; its key is the anchor's at the highest place, else the
+-- key of the certificate above it
+abbrev pub placeOf : State → ℕ
+placeOf s = cond (ltb (s .at) (s .depth)) (s .at) (s .depth)
+
+abbrev pub keyAt : State → ℕ
+keyAt s = cond (ltb (s .at) (s .depth)) (getD (s .path) (s .at + 1) 0) (s .anchor)
+
+abbrev pub whatAt : State → ℕ
+whatAt s = getD (s .path) (placeOf s) 0
+
+-- the signatures that are left after the one at a place
+abbrev pub moreTree : World → State → ℕ → Tree
+moreTree W s place =
+    through W (clearTree W s) (wrongTree W s) (signatures (getD (s .path) place 0) (lower (s .path) place)) (s .signatures)
+
+abbrev pub askTree : World → State → ℕ → ℕ → Tree
+askTree W s key place =
+    ask key (getD (s .path) place 0) (λ a. unless (W .reply key (getD (s .path) place 0) a) (moreTree W s place) (λ x. wrongTree W s x (s .signatures)))
+
+unfoldable pub phaseTree : World → State → Phase → Tree
+phaseTree W s Walk = onward W s (s .signatures) (s .comparisons) (s .best)
+phaseTree W s Ask = askTree W s (keyAt s) (placeOf s)
+phaseTree W s Offer = offer (s .anchor) (here s) (λ a. unless a (done (accepted (s .anchor) (here s))) (λ x. wrongTree W s x (s .signatures)))
+phaseTree W s Found = done (accepted (s .anchor) (here s))
+phaseTree W s (Refused e) = done (refused e)
+phaseTree W s (Spent e) = done (spent e)
+
+abbrev pub treeOf : World → State → Tree
+treeOf W s = phaseTree W s (s .phase)
+
+-- the events that are left, at most
+abbrev pub still : World → State → ℕ
+still W s = paid (λ ev. 1) (left W s) (s .extensions)
+
+unfoldable pub phaseEffort : World → State → Phase → ℕ
+phaseEffort W s Walk = still W s
+phaseEffort W s Ask = still W s
+phaseEffort W s Offer = still W s
+phaseEffort W s Found = 0
+phaseEffort W s (Refused e) = 0
+phaseEffort W s (Spent e) = 0
+
+abbrev pub effort : World → State → ℕ
+effort W s = phaseEffort W s (s .phase)
+
+-- r stands for the tree t, and has at most n events left to go through
+pub record Stands (W : World) (r : State) (t : Tree) (n : ℕ) : Type 0 where
+  pub same : treeOf W r ≡ t
+  pub deep : r .depth < 7
+  pub most : effort W r ≤ n
+
+-- r is where s is: the same path, and at each level the same next candidate
+pub record Kept (s r : State) : Type 0 where
+  pub path : r .path ≡ s .path
+  pub next : r .next ≡ s .next
+  pub depth : r .depth ≡ s .depth
+
+-- r is at the path of s with i on top, where no candidate was looked at yet
+pub record Pushed (s r : State) (i : ℕ) : Type 0 where
+  pub path : r .path ≡ set (s .path) (s .depth + 1) i
+  pub next : r .next ≡ set (s .next) (s .depth + 1) 0
+  pub depth : r .depth ≡ s .depth + 1
+
+-- the same, where r is where s is
+pub record Heard (W : World) (s r : State) (t : Tree) (n : ℕ) : Type 0 where
+  pub same : treeOf W r ≡ t
+  pub deep : r .depth < 7
+  pub most : effort W r ≤ n
+  pub kept : Kept s r
+
+-- the same, where r is where s is, or has i on top
+pub record Grew (W : World) (s r : State) (i : ℕ) (t : Tree) (n : ℕ) : Type 0 where
+  pub same : treeOf W r ≡ t
+  pub deep : r .depth < 7
+  pub most : effort W r ≤ n
+  pub grew : Kept s r ⊎ Pushed s r i
+
+-- the next candidate of a state, and where the state is when it was looked at
+abbrev pub following : State → ℕ
+following s = getD (s .next) (s .depth) 0
+
+abbrev pub passed : State → List ℕ
+passed s = set (s .next) (s .depth) (following s + 1)
+
+-- one move: the search is over at the lowest level; a level is left; the next candidate is looked at, and stays below or comes on top
+pub data One (s r : State) : Type 0 where
+  ends : Kept s r → s .depth ≡ 0 → r .phase ≡ Refused (s .best) → One s r
+  leaves : r .path ≡ s .path → r .next ≡ s .next → s .depth ≡ r .depth + 1 → One s r
+  looks : r .path ≡ s .path → r .next ≡ passed s → r .depth ≡ s .depth → One s r
+  pushes : r .path ≡ set (s .path) (s .depth + 1) (following s) → r .next ≡ set (passed s) (s .depth + 1) 0 → r .depth ≡ s .depth + 1 → One s r
+
+-- a move: r stands for what s stands for, with fewer events left. So a walk ends, and all moves of a run are at most the events of the search
+pub record Moved (W : World) (s r : State) : Type 0 where
+  pub walks : s .phase ≡ Walk
+  pub one : One s r
+  pub same : treeOf W r ≡ treeOf W s
+  pub deep : r .depth < 7
+  pub less : effort W r < effort W s
+
+-- what trying the anchor i, and extending the path with i, at a state's path come to
+abbrev pub tryTree : World → State → ℕ → Tree
+tryTree W s i = run W (try i (here s) ∷ left W s) (s .signatures) (s .extensions) (s .comparisons) (s .best)
+
+abbrev pub extended : World → State → ℕ → List Event
+extended W s i = extension ∷ (enter W (mostIntermediates - s .depth) (i ∷ here s) ++ left W s)
+
+abbrev pub extendTree : World → State → ℕ → Tree
+extendTree W s i = run W (extended W s i) (s .signatures) (s .extensions) (s .comparisons) (s .best)
+
+-- what is left of the events after the extension itself
+abbrev pub extendStill : World → State → ℕ → ℕ
+extendStill W s i = paid (λ ev. 1) (extended W s i) (s .extensions) - 1
+
+-- a whole run from s on, all calls together: the state now, the answers given on the way in order, the moves made. An answer makes no move
+pub data Ran (W : World) (s : State) : State → List ℕ → ℕ → Type 0 where
+  begin : Ran W s s [] 0
+  move : {r t : State} {said : List ℕ} {moves : ℕ} → Ran W s r said moves → Moved W r t → Ran W s t said (suc moves)
+  reply : {r t : State} {said : List ℕ} {moves : ℕ} (a : ℕ) → Ran W s r said moves → Heard W r t (give (treeOf W r) a) (effort W r)
+      → Ran W s t (said ++ (a ∷ [])) moves
+
+-- the machine walked from s to r: every run that came to s comes to r
+pub record Walked (W : World) (s r : State) : Type 0 where
+  pub same : treeOf W r ≡ treeOf W s
+  pub most : effort W r ≤ effort W s
+  pub ran : (s₀ : State) (said : List ℕ) (moves : ℕ) → Ran W s₀ s said moves → (more : ℕ) × Ran W s₀ r said more
+
+-- r asks or has ended; it stands for the tree t and has at most n events left to go through. Every run that came to s, with the answers `said` given
+-- after that, goes on to r
+pub record Halted (W : World) (s r : State) (said : List ℕ) (t : Tree) (n : ℕ) : Type 0 where
+  pub same : treeOf W r ≡ t
+  pub deep : r .depth < 7
+  pub most : effort W r ≤ n
+  pub halts : r .phase ≡ Walk → ⊥
+  pub ran : (s₀ : State) (before : List ℕ) (moves : ℕ) → Ran W s₀ s before moves → (more : ℕ) × Ran W s₀ r (before ++ said) more
+
+-- the state at the start, in a phase: Walk, or Refused where the end entity's own checks refuse it
+abbrev pub begun : ℕ → ℕ → ℕ → ℕ → Phase → State
+begun end s b n phase = record {
+  path = end ∷ 0 ∷ 0 ∷ 0 ∷ 0 ∷ 0 ∷ 0 ∷ [];
+  next = 0 ∷ 0 ∷ 0 ∷ 0 ∷ 0 ∷ 0 ∷ 0 ∷ [];
+  depth = 0;
+  at = 0;
+  anchor = 0;
+  signatures = s;
+  extensions = b;
+  comparisons = n;
+  best = unknownIssuer;
+  phase = phase;
+}
+
+-- the machine at its first question or at the end: the tree of the whole search, at most (candidates + 1)(extensions + 1) events, and a run that came
+-- here from the start
+pub record Started (W : World) (end s b n : ℕ) (r : State) : Type 0 where
+  pub same : treeOf W r ≡ search W end s b n
+  pub deep : r .depth < 7
+  pub most : effort W r ≤ suc (W .candidates) * suc b
+  pub halts : r .phase ≡ Walk → ⊥
+  pub phase : Phase
+  pub begins : Stands W (begun end s b n phase) (search W end s b n) (suc (W .candidates) * suc b)
+  pub moves : ℕ
+  pub ran : Ran W (begun end s b n phase) r [] moves

@@ -1,0 +1,93 @@
+-- The world of a request: what the search asks of candidates, paths and answers, as functions of the lent bytes; and the same by what is known of
+-- each certificate, which is how the machine sees it.
+use Prim.Native.Nat.{ℕ, _+_, _-_}
+use mathlib.Core.Path.{_≡_}
+use mathlib.Core.Bool.{Bool, true, false, cond}
+use mathlib.Core.List.{List, [], map}
+use lib.Dec.{ltb, eqb}
+use lib.ListN.{length, getD}
+use Rattle.refusal.specs.Refusals.{badDer, invalidSignatureForPublicKey, unsupportedSignatureAlgorithm, unsupportedSignatureAlgorithmForPublicKey}
+use Rattle.cert.specs.declared.Reading.{Reading}
+use Rattle.table.specs.declared.Outlined.{Outlined}
+use Rattle.table.specs.declared.Outlined.the-variants.{Is, Refused}
+use Rattle.table.specs.Model.{outlined}
+use Rattle.lent.specs.Lent.{certificateOf, someOf}
+use Rattle.asked.specs.Model.{replyIn, replyOf}
+use Rattle.path.specs.Model.{checkIn, checkOn, verdictIn, verdictOn}
+use Rattle.entries.specs.Tally.{Tally, clean}
+use Rattle.constraints.specs.Paths.{Noted, noted}
+use Rattle.constraints.specs.Model.{pathConstraintsIn, pathConstraints}
+use Rattle.dialogue.specs.Model.{Path, World, signatures}
+
+-- ---- answers
+-- the refusal that an answer stands for, or none. 4 says that the key cannot be read: a general refusal, unless the key has a better
+unfoldable pub meaningOf : ℕ → ℕ
+meaningOf answer =
+    cond (eqb answer 0)
+    0
+    (cond (eqb answer 2)
+    unsupportedSignatureAlgorithm
+    (cond (eqb answer 3) unsupportedSignatureAlgorithmForPublicKey (cond (eqb answer 4) badDer invalidSignatureForPublicKey)))
+
+-- ---- name constraints
+-- a candidate's number without the anchors before it; what is no intermediate's is past them all
+unfoldable pub loweredOf : ℕ → ℕ → ℕ → ℕ
+loweredOf anchors intermediates n = cond (ltb n anchors) intermediates (n - anchors)
+
+-- whether an anchor has any, whose content is then in `constraints`
+unfoldable pub isBound : List (List ℕ) → List ℕ → ℕ → Bool
+isBound constraints bound anchor =
+    cond (ltb anchor (length bound)) (cond (eqb (getD bound anchor 0) 0) false (ltb anchor (length constraints))) false
+
+unfoldable pub namesOf : List (List ℕ) → List ℕ → ℕ → List (List ℕ) → List ℕ → ℕ → Path → Tally
+namesOf issuers end anchors constraints bound anchor path =
+    pathConstraints (getD constraints anchor []) (isBound constraints bound anchor) (map (certificateOf issuers end anchors) path)
+
+-- whether a certificate has name constraints, as far as is known
+unfoldable pub constrainedAs : Outlined → Bool
+constrainedAs (Is o) = o .constrained
+constrainedAs (Refused e) = true
+
+-- the certificate with a number, and what is known of it
+abbrev pub notedOf : (ℕ → Reading) → List (List ℕ) → List ℕ → ℕ → ℕ → Noted
+notedOf known issuers end anchors n = noted (certificateOf issuers end anchors n) (known n)
+
+-- the name constraints of a path by what is known; one on which nobody is known to have any is not looked at
+unfoldable pub namesIn : (ℕ → Reading) → List (List ℕ) → List ℕ → ℕ → List (List ℕ) → List ℕ → ℕ → Path → Tally
+namesIn known issuers end anchors constraints bound anchor path =
+    let all = pathConstraintsIn (getD constraints anchor []) (isBound constraints bound anchor) (map (notedOf known issuers end anchors) path) in
+    cond (isBound constraints bound anchor) all (cond (someOf (λ n. constrainedAs (outlined (known n))) path) all clean)
+
+-- ---- the world
+unfoldable pub worldOf : List (List ℕ) → List ℕ → List (List ℕ) → List (List ℕ) → List (List ℕ) → List ℕ → List (List ℕ) → ℕ → List ℕ → Bool → World
+worldOf issuers end subjects keys constraints bound distrusted time wanted demanded =
+    let anchors = length subjects in
+    record {
+      candidates = anchors + length issuers;
+      verdict = verdictOn issuers end subjects keys distrusted;
+      check = checkOn issuers end anchors distrusted time wanted demanded;
+      stages = signatures;
+      reply = λ key what answer. replyOf issuers end keys anchors key (meaningOf answer);
+      cost = λ anchor path. namesOf issuers end anchors constraints bound anchor path .taken;
+      named = λ anchor path. namesOf issuers end anchors constraints bound anchor path .refusal;
+    }
+
+-- the world by what is known
+unfoldable pub worldIn : (ℕ → Reading) → List (List ℕ) → List ℕ → List (List ℕ) → List (List ℕ) → List (List ℕ) → List ℕ → List (List ℕ) → ℕ → List ℕ → Bool → World
+worldIn known issuers end subjects keys constraints bound distrusted time wanted demanded =
+    let anchors = length subjects in
+    record {
+      candidates = anchors + length issuers;
+      verdict = verdictIn known issuers end subjects keys distrusted;
+      check = checkIn known issuers end anchors distrusted time wanted demanded;
+      stages = signatures;
+      reply = λ key what answer. replyIn known issuers end keys anchors key (meaningOf answer);
+      cost = λ anchor path. namesIn known issuers end anchors constraints bound anchor path .taken;
+      named = λ anchor path. namesIn known issuers end anchors constraints bound anchor path .refusal;
+    }
+
+-- the parts of a world that an answer is judged by
+pub record Judges (W : World) (known : ℕ → Reading) (issuers : List (List ℕ)) (end : List ℕ) (keys constraints : List (List ℕ)) (bound : List ℕ) (anchors : ℕ) : Type 0 where
+  pub reply : (key what answer : ℕ) → W .reply key what answer ≡ replyIn known issuers end keys anchors key (meaningOf answer)
+  pub cost : (anchor : ℕ) (path : Path) → W .cost anchor path ≡ namesIn known issuers end anchors constraints bound anchor path .taken
+  pub named : (anchor : ℕ) (path : Path) → W .named anchor path ≡ namesIn known issuers end anchors constraints bound anchor path .refusal

@@ -1,0 +1,64 @@
+use lib.ListN.{length}
+use native.Mathlib.Omega.{arith}
+use borrow.Author.Tests.{le-leb, lt-leb, eq-eqb, ne-eqb, lt-ltb, le-ltb}
+use Rattle.table.specs.Model.{outlined, rowReading, readingIn}
+use borrow.Author.Needs.{needs}
+use Rattle.table.proofs.outline_at.Statement.{statement}
+use Rattle.table.proofs.outline_at.Tie as tie
+
+outline-read-requires : tie.Need-outline-read-requires
+outline-read-requires c κs = tt
+
+returns : tie.Need-returns
+unfolding readingIn
+returns c = let a = c .before .before .before .args in rw (le-leb (length (a .table .now)) (a .i) (omega arith)) (c .outline-read .ensures)
+
+mul-row : tie.Need-mul-row
+mul-row c = search needs
+
+shared-slice-copy-out-row : tie.Need-shared-slice-copy-out-row
+shared-slice-copy-out-row c = search needs
+
+array-read-mark : tie.Need-array-read-mark
+array-read-mark c = search needs
+
+outline-in-requires : tie.Need-outline-in-requires
+outline-in-requires c κs = search needs
+
+returns-2 : tie.Need-returns-2
+unfolding outlined readingIn rowReading
+returns-2 c = let a = c .before .before .before .before .before .args in rw (lt-leb (length (a .table .now)) (a .i) (omega arith), c .outline-in .ensures, eq-eqb _ _ (c .before .if2 .taken))
+
+sub-if3 : tie.Need-sub-if3
+sub-if3 c = search needs
+
+returns-3 : tie.Need-returns-3
+unfolding outlined readingIn rowReading
+returns-3 c = let a = c .before .before .before .before .before .args in rw (lt-leb (length (a .table .now)) (a .i) (omega arith), ne-eqb _ _ (c .before .if2 .left), lt-ltb _ _ (c .if3 .taken))
+
+sub-t6 : tie.Need-sub-t6
+sub-t6 c = search needs
+
+cast-t14 : tie.Need-cast-t14
+cast-t14 c = search needs
+
+returns-4 : tie.Need-returns-4
+unfolding outlined readingIn rowReading
+returns-4 c = let a = c .before .before .before .before .before .args in rw (lt-leb (length (a .table .now)) (a .i) (omega arith), ne-eqb _ _ (c .before .if2 .left), le-ltb _ _ (c .if3 .left))
+
+pub outline-at-spec : {M : Type 1} → statement M
+outline-at-spec =
+    tie.close
+    (tie.spec
+    outline-read-requires
+    returns
+    mul-row
+    shared-slice-copy-out-row
+    array-read-mark
+    outline-in-requires
+    returns-2
+    sub-if3
+    returns-3
+    sub-t6
+    cast-t14
+    returns-4)

@@ -1,5 +1,6 @@
 // What an answer does to a state, before the walk goes on.
 use entries::Spent;
+use lent::MOST_INTERMEDIATES;
 use machine::Phase;
 use machine::State;
 use table::Outlined;
@@ -267,9 +268,11 @@ pub fn reply<'a>(
     s: State,
     answer: u16,
 ) -> State
-    requires { ⌜ (s .depth < 7) × (s .phase ≡ Walk → ⊥) ⌝ }
-    ensures { λ r. ⌜ ((W : World) → Judges W (readingsIn (now (table .entry)) (map now (now (issuers .entry))) (now (end .entry)) anchors) (map now (now (issuers .entry))) (now (end .entry)) (map now (now (keys .entry))) (map now (now (constraints .entry))) (now (bound .entry)) anchors → Heard W s r (give (treeOf W s) answer) (effort W s)) ⌝ }
+    ensures { λ r. ⌜ (s .depth < 7 → (s .phase ≡ Walk → ⊥) → (W : World) → Judges W (readingsIn (now (table .entry)) (map now (now (issuers .entry))) (now (end .entry)) anchors) (map now (now (issuers .entry))) (now (end .entry)) (map now (now (keys .entry))) (map now (now (constraints .entry))) (now (bound .entry)) anchors → Heard W s r (give (treeOf W s) answer) (effort W s)) ⌝ }
 {
+    if MOST_INTERMEDIATES < s.depth {
+        return s;
+    }
     let ph = s.phase;
     match ph {
         Phase::Ask => on_answer(

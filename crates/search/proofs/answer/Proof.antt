@@ -30,18 +30,18 @@ returns-2 : tie.Need-returns-2
 returns-2 c deep halts = absurd (halts (c .enum-told .given .1))
 
 reply-requires : tie.Need-reply-requires
-reply-requires c κs = (omega (arith, c .before .if1 .left), not-walk (c .before .before .before .before .before .before .args .s .phase) (c .match .keys2))
+reply-requires c κs = tt
 
 advance-requires : tie.Need-advance-requires
 advance-requires c κs =
     let a = c .before .before .before .before .before .before .before .args in
-    c .reply .ensures (worldIn (readingsIn (a .table .now) (map now (a .issuers .now)) (a .end .now) (length (a .subjects .now))) (map now (a .issuers .now)) (a .end .now) (map now (a .subjects .now)) (map now (a .keys .now)) (map now (a .constraints .now)) (a .bound .now) (map now (a .distrusted .now)) (a .time) (a .wanted .now) (a .demanded)) (judges (readingsIn (a .table .now) (map now (a .issuers .now)) (a .end .now) (length (a .subjects .now))) (map now (a .issuers .now)) (a .end .now) (map now (a .subjects .now)) (map now (a .keys .now)) (map now (a .constraints .now)) (a .bound .now) (map now (a .distrusted .now)) (a .time) (a .wanted .now) (a .demanded) (length (a .subjects .now)) (sym (length-map (a .subjects .now) now))) .deep
+    c .reply .ensures (omega (arith, c .before .before .if1 .left)) (not-walk (a .s .phase) (c .before .match .keys2)) (worldIn (readingsIn (a .table .now) (map now (a .issuers .now)) (a .end .now) (length (a .subjects .now))) (map now (a .issuers .now)) (a .end .now) (map now (a .subjects .now)) (map now (a .keys .now)) (map now (a .constraints .now)) (a .bound .now) (map now (a .distrusted .now)) (a .time) (a .wanted .now) (a .demanded)) (judges (readingsIn (a .table .now) (map now (a .issuers .now)) (a .end .now) (length (a .subjects .now))) (map now (a .issuers .now)) (a .end .now) (map now (a .subjects .now)) (map now (a .keys .now)) (map now (a .constraints .now)) (a .bound .now) (map now (a .distrusted .now)) (a .time) (a .wanted .now) (a .demanded) (length (a .subjects .now)) (sym (length-map (a .subjects .now) now))) .deep
 
 returns-3 : tie.Need-returns-3
 returns-3 c deep halts =
     let a = c .before .before .before .before .before .before .before .before .args in
     let W = worldIn (readingsIn (a .table .now) (map now (a .issuers .now)) (a .end .now) (length (a .subjects .now))) (map now (a .issuers .now)) (a .end .now) (map now (a .subjects .now)) (map now (a .keys .now)) (map now (a .constraints .now)) (a .bound .now) (map now (a .distrusted .now)) (a .time) (a .wanted .now) (a .demanded) in
-    answered W (a .s) (c .before .reply .result) (c .advance .result) (a .given) (c .before .reply .ensures W (judges (readingsIn (a .table .now) (map now (a .issuers .now)) (a .end .now) (length (a .subjects .now))) (map now (a .issuers .now)) (a .end .now) (map now (a .subjects .now)) (map now (a .keys .now)) (map now (a .constraints .now)) (a .bound .now) (map now (a .distrusted .now)) (a .time) (a .wanted .now) (a .demanded) (length (a .subjects .now)) (sym (length-map (a .subjects .now) now)))) (c .advance .ensures (map now (a .constraints .now)) (a .bound .now))
+    answered W (a .s) (c .before .reply .result) (c .advance .result) (a .given) (c .before .reply .ensures deep halts W (judges (readingsIn (a .table .now) (map now (a .issuers .now)) (a .end .now) (length (a .subjects .now))) (map now (a .issuers .now)) (a .end .now) (map now (a .subjects .now)) (map now (a .keys .now)) (map now (a .constraints .now)) (a .bound .now) (map now (a .distrusted .now)) (a .time) (a .wanted .now) (a .demanded) (length (a .subjects .now)) (sym (length-map (a .subjects .now) now)))) (c .advance .ensures (map now (a .constraints .now)) (a .bound .now))
 
 pub answer-spec : {M : Type 1} → statement M
 answer-spec =

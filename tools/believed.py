@@ -56,7 +56,7 @@ while todo:
             todo.append((path, word))
         elif word in file.far:
             todo.append(file.far[word])
-crates = [l.split(':')[0] for l in (top / 'crates.txt').read_text().splitlines() if ':' in l]
+crates = [l.split(':')[0] for l in (top / 'crates.txt').read_text().splitlines() if ':' in l and not l.startswith('#')]
 count = {}
 for path, name in reached:
     count[path] = count.get(path, 0) + len(files[path].text[name])

@@ -12,7 +12,7 @@ use Rattle.refusal.specs.Refusals.{badDer, unsupportedSignatureAlgorithm}
 use Rattle.der.specs.declared.Span.{Span}
 use Rattle.der.specs.Places.{Bytes, part}
 use Rattle.der.specs.Model.{expectAt}
-use Rattle.values.specs.Model.{bitsAt}
+use Rattle.bits.specs.Model.{bitsAt}
 use Rattle.der.proofs.Invert.{either}
 use Rattle.cert.specs.declared.Reading.{Reading}
 use Rattle.cert.specs.declared.Reading.the-variants.{Accepted, Refused as NoCertificate}
@@ -28,8 +28,8 @@ use Rattle.cert.proofs.Laws.{read-inside}
 use Rattle.cert.proofs.PublicKeys.{key-sound, key-complete}
 use Rattle.extensions.proofs.Refusals.{Fair, by-test, by-content, expect-fair}
 use Rattle.cert.proofs.Refusals.{bits-fair, ReadingFair, reading-is, reading-not, read-fair}
-use Rattle.table.specs.declared.Outline.{Outline}
-use Rattle.table.specs.Model.{outlineOf, outlined, onOutline}
+use Rattle.rows.specs.declared.Outline.{Outline}
+use Rattle.rows.specs.Model.{outlineOf, outlined, onOutline}
 use Rattle.asked.specs.declared.Question.the-variants.{Of, Refused as NoQuestion}
 use Rattle.lent.specs.Lent.{certificateOf}
 use Rattle.checks.specs.Conditions.{Contents}
@@ -37,7 +37,7 @@ use Rattle.asked.specs.Questions.{Signed, KeyOf, of-anchor, of-certifica
 use Rattle.asked.specs.Model.{keyOf, questionOf, replyFor, replyOf, keyIn, questionIn, replyIn}
 use Rattle.checks.proofs.Contents.{at, contentsOf}
 use Rattle.checks.proofs.Skeletons.{reads-certificate, certificate-reads}
-use Rattle.table.proofs.Laws.{on-outline}
+use Rattle.rows.proofs.Laws.{on-outline}
 
 -- ---- the question
 module _ (issuers : List (List ℕ)) (end : List ℕ) (keys : List (List ℕ)) (anchors key n : ℕ) where

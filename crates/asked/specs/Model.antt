@@ -10,7 +10,7 @@ use Rattle.cert.specs.declared.Reading.{Reading}
 use Rattle.cert.specs.declared.key.Key.{Key}
 use Rattle.cert.specs.declared.key.Key.the-variants.{Parts as KeyParts, Refused as NoKey}
 use Rattle.cert.specs.Model.{keyParts}
-use Rattle.table.specs.Model.{outlined, onOutline}
+use Rattle.rows.specs.Model.{outlined, onOutline}
 use Rattle.lent.specs.Lent.{certificateOf, readingsOf}
 use Rattle.asked.specs.declared.Question.{Question}
 use Rattle.asked.specs.declared.Question.the-variants.{Of, Refused as NoQuestion}

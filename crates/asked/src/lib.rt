@@ -1,7 +1,7 @@
 // What a signature question is about: the signed bytes, the algorithm and the signature of a certificate, and the parts of a key.
 use cert::key::Key;
 use der::Span;
-use table::Outlined;
+use rows::Outlined;
 ghost use mathlib.Core.Path.{_≡_};
 ghost use mathlib.Core.List.{map};
 ghost use Rattle.asked.specs.Model.{keyIn, questionIn, replyIn};

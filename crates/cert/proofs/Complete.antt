@@ -11,22 +11,24 @@ use Rattle.der.specs.Places.{part}
 use Rattle.der.specs.X690.{encoding}
 use Rattle.der.specs.Model.{LIMIT}
 use Rattle.der.proofs.Parts.{part-length}
-use Rattle.der.proofs.Equal.{same-equal}
+use Rattle.parts.proofs.Equal.{same-equal}
 use Rattle.extensions.proofs.Complete.{extensions-found}
 use Rattle.cert.specs.declared.Reading.the-variants.{Accepted}
-use Rattle.cert.specs.declared.Envelope.{Envelope}
-use Rattle.cert.specs.declared.Opened.the-variants.{Parts}
-use Rattle.cert.specs.declared.Beginning.{Beginning}
-use Rattle.cert.specs.declared.Begun.the-variants.{With}
+use Rattle.envelope.specs.declared.Envelope.{Envelope}
+use Rattle.envelope.specs.declared.Opened.the-variants.{Parts}
+use Rattle.envelope.specs.declared.Beginning.{Beginning}
+use Rattle.envelope.specs.declared.Begun.the-variants.{With}
 use Rattle.cert.specs.declared.Fields.{Fields}
 use Rattle.cert.specs.declared.Found.the-variants.{All as AllFields}
 use Rattle.extensions.specs.Model.{span}
-use Rattle.cert.specs.Model.{opened, begun, fieldsAt, readCertificate}
+use Rattle.envelope.specs.Model.{opened, begun}
+use Rattle.cert.specs.Model.{fieldsAt, readCertificate}
 use Rattle.extensions.specs.Rfc5280.{sequence, extensions}
 use Rattle.cert.specs.Rfc5280.{Skeleton, Readable, integer, bitString, version, tbsContent, tbsCertificate, certificateContent, certificate}
 use Rattle.extensions.specs.Layout.{placeOf, knownAt}
 use Rattle.cert.specs.Layout.{bitsOf, places}
-use Rattle.cert.proofs.Cases.{parts-case, opened-case, begun-case, fields-case, read-case}
+use Rattle.envelope.proofs.Cases.{parts-case, opened-case, begun-case}
+use Rattle.cert.proofs.Cases.{fields-case, read-case}
 use Rattle.extensions.proofs.Value.{part-whole, find-last, find-in}
 use Rattle.cert.proofs.Small.{bits-short, bits-found, version-found}
 use Rattle.cert.proofs.Sound.{placed}

@@ -12,7 +12,7 @@ use Rattle.der.specs.declared.Span.{Span}
 use Rattle.der.specs.declared.Got.the-variants.{Content, Refused as NoContent}
 use Rattle.der.specs.Places.{Bytes, part}
 use Rattle.der.specs.Model.{LIMIT, expectAt}
-use Rattle.values.specs.Model.{wholeOctets, bitsAt}
+use Rattle.bits.specs.Model.{wholeOctets, bitsAt}
 use Rattle.der.proofs.Invert.{peel}
 use Rattle.der.proofs.Parts.{part-length}
 use Rattle.values.proofs.SmallValues.{content-inv}

@@ -7,25 +7,28 @@ use lib.Dec.{lit<, ltb, leb, eqb}
 use Rattle.refusal.specs.Refusals.{badDer, trailingBitString, trailingSignedData, unsupportedCertVersion}
 use Rattle.der.specs.declared.Span.{Span}
 use Rattle.der.specs.declared.Got.the-variants.{Refused as NoContent}
-use Rattle.values.specs.declared.small.Small.{Small}
-use Rattle.values.specs.declared.small.Small.the-variants.{Number, Refused as NoNumber}
-use Rattle.der.specs.Model.{expectAt, sameParts}
-use Rattle.values.specs.Model.{positiveIn, nonnegative, smallIn, readSmall, wholeOctets, bitsAt}
+use Rattle.values.specs.declared.Small.{Small}
+use Rattle.values.specs.declared.Small.the-variants.{Number, Refused as NoNumber}
+use Rattle.der.specs.Model.{expectAt}
+use Rattle.parts.specs.Model.{sameParts}
+use Rattle.values.specs.Model.{positiveIn, nonnegative, smallIn, readSmall}
+use Rattle.bits.specs.Model.{wholeOctets, bitsAt}
 use Rattle.extensions.proofs.Refusals.{Fair, GotFair, by-test, by-content, expect-fair, on-kept-fair, extensions-fair, got-is, got-not}
 use Rattle.cert.specs.declared.Certificate.{Certificate}
 use Rattle.cert.specs.declared.Reading.{Reading}
 use Rattle.cert.specs.declared.Reading.the-variants.{Accepted, Refused}
-use Rattle.cert.specs.declared.Envelope.{Envelope}
-use Rattle.cert.specs.declared.Opened.{Opened}
-use Rattle.cert.specs.declared.Opened.the-variants.{Parts, Refused as NotOpened}
-use Rattle.cert.specs.declared.Beginning.{Beginning}
-use Rattle.cert.specs.declared.Begun.{Begun}
-use Rattle.cert.specs.declared.Begun.the-variants.{With, Refused as NotBegun}
+use Rattle.envelope.specs.declared.Envelope.{Envelope}
+use Rattle.envelope.specs.declared.Opened.{Opened}
+use Rattle.envelope.specs.declared.Opened.the-variants.{Parts, Refused as NotOpened}
+use Rattle.envelope.specs.declared.Beginning.{Beginning}
+use Rattle.envelope.specs.declared.Begun.{Begun}
+use Rattle.envelope.specs.declared.Begun.the-variants.{With, Refused as NotBegun}
 use Rattle.cert.specs.declared.Fields.{Fields}
 use Rattle.cert.specs.declared.Found.{Found}
 use Rattle.cert.specs.declared.Found.the-variants.{All as AllFields, Refused as NotFound}
 use Rattle.extensions.specs.Model.{extensionsAt}
-use Rattle.cert.specs.Model.{partsIn, onParts, opened, isVersion, versionAt, begun, fieldsAt, onBegun, onFound, readCertificate}
+use Rattle.envelope.specs.Model.{partsIn, onParts, opened, isVersion, versionAt, begun, onBegun}
+use Rattle.cert.specs.Model.{fieldsAt, onFound, readCertificate}
 
 -- an answer whose refusal, if it is one, is fair
 pub data SmallFair : Small → Type 0 where

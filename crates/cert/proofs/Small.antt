@@ -9,23 +9,24 @@ use native.Mathlib.Omega.{arith}
 use Rattle.refusal.specs.Refusals.{unsupportedCertVersion, badDer}
 use Rattle.der.specs.declared.Span.{Span}
 use Rattle.der.specs.declared.Got.the-variants.{Content}
-use Rattle.values.specs.declared.small.Small.the-variants.{Number}
+use Rattle.values.specs.declared.Small.the-variants.{Number}
 use Rattle.der.specs.Places.{Bytes, part}
 use Rattle.der.specs.X690.{encoding, lengthBytes, Natural, valueOf}
 use Rattle.der.specs.Model.{LIMIT, expectAt, onContent}
-use Rattle.values.specs.Model.{bitsAt, positiveIn, nonnegative, smallIn, readSmall}
+use Rattle.bits.specs.Model.{bitsAt}
+use Rattle.values.specs.Model.{positiveIn, nonnegative, smallIn, readSmall}
 use Rattle.der.proofs.Laws.{tests}
 use Rattle.der.proofs.Parts.{part-length}
 use Rattle.values.proofs.SmallValues.{natural-one, small-is}
-use Rattle.values.proofs.BitStrings.{bits-is, is-bits}
+use Rattle.bits.proofs.BitStrings.{bits-is, is-bits}
 use Rattle.extensions.proofs.Small.{part-first}
-use Rattle.cert.specs.Model.{versionAt}
+use Rattle.envelope.specs.Model.{versionAt}
 use Rattle.extensions.specs.Rfc5280.{explicit}
 use Rattle.cert.specs.Rfc5280.{bitString, integer, version}
 use Rattle.extensions.specs.Layout.{placeOf}
 use Rattle.cert.specs.Layout.{bitsOf}
-use Rattle.cert.proofs.Cases.{version-case}
-use Rattle.cert.proofs.Inversion.{version-inv}
+use Rattle.envelope.proofs.Cases.{version-case}
+use Rattle.envelope.proofs.Inversion.{version-inv}
 use Rattle.extensions.proofs.Value.{encoded-length, span-is, here, Found, find, find-last, place-start}
 
 -- ---- BIT STRING

@@ -11,12 +11,12 @@ use Rattle.der.specs.Places.{Bytes, part}
 use Rattle.der.specs.X690.{encoding}
 use Rattle.der.specs.Model.{LIMIT}
 use Rattle.der.proofs.Parts.{part-length, part-split}
-use Rattle.der.proofs.Equal.{same-yes}
+use Rattle.parts.proofs.Equal.{same-yes}
 use Rattle.extensions.proofs.Sound.{ExtensionsHere, extensions-here}
 use Rattle.cert.specs.declared.Certificate.{Certificate}
 use Rattle.cert.specs.declared.Reading.the-variants.{Accepted}
-use Rattle.cert.specs.declared.Envelope.{Envelope}
-use Rattle.cert.specs.declared.Beginning.{Beginning}
+use Rattle.envelope.specs.declared.Envelope.{Envelope}
+use Rattle.envelope.specs.declared.Beginning.{Beginning}
 use Rattle.cert.specs.declared.Fields.{Fields}
 use Rattle.extensions.specs.declared.Known.{Known}
 use Rattle.extensions.specs.Model.{span}
@@ -25,7 +25,8 @@ use Rattle.extensions.specs.Rfc5280.{sequence}
 use Rattle.cert.specs.Rfc5280.{Skeleton, Readable, integer, bitString, version, tbsContent, tbsCertificate, certificateContent, certificate}
 use Rattle.extensions.specs.Layout.{placeOf, slots, knownAt}
 use Rattle.cert.specs.Layout.{bitsOf, places}
-use Rattle.cert.proofs.Inversion.{OpenedAs, BegunAt, FieldsAt, read-inv}
+use Rattle.envelope.proofs.Inversion.{OpenedAs, BegunAt}
+use Rattle.cert.proofs.Inversion.{FieldsAt, read-inv}
 use Rattle.extensions.proofs.Value.{part-whole, here, here-split}
 use Rattle.cert.proofs.Small.{bits-here, version-here}
 use Rattle.extensions.proofs.Slots.{Within, KnownWithin}

@@ -17,7 +17,7 @@ pub fn parts(s: &[u8], from: usize, to: usize) -> Key
         Got::Content(p) => p,
         Got::Refused(e) => return Key::Refused(e),
     };
-    let bits = match values::bits::bits_at(s, algorithm.end, to) {
+    let bits = match bits::bits_at(s, algorithm.end, to) {
         Got::Content(p) => p,
         Got::Refused(e) => return Key::Refused(e),
     };

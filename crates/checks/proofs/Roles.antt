@@ -10,10 +10,10 @@ use native.Mathlib.Omega.{arith}
 use borrow.Author.Tests.{ltb-false, eqb-true, eqb-false, eq-eqb, ne-eqb}
 use Rattle.der.specs.Places.{Bytes, part}
 use Rattle.der.specs.X690.{encoding, truth}
-use Rattle.values.specs.declared.small.Truth.{Truth}
-use Rattle.values.specs.declared.small.Truth.the-variants.{Is as Said, Refused as NoTruth}
-use Rattle.values.specs.declared.small.Small.{Small}
-use Rattle.values.specs.declared.small.Small.the-variants.{Number, Refused as NoNumber}
+use Rattle.values.specs.declared.Truth.{Truth}
+use Rattle.values.specs.declared.Truth.the-variants.{Is as Said, Refused as NoTruth}
+use Rattle.values.specs.declared.Small.{Small}
+use Rattle.values.specs.declared.Small.the-variants.{Number, Refused as NoNumber}
 use Rattle.values.specs.Model.{readBool, readSmall}
 use Rattle.der.proofs.Laws.{tests}
 use Rattle.der.proofs.Invert.{either}

@@ -10,7 +10,7 @@ use Rattle.der.specs.Places.{Bytes, part}
 use Rattle.der.specs.X690.{encoding}
 use Rattle.der.specs.Model.{LIMIT}
 use Rattle.der.proofs.Parts.{part-front}
-use Rattle.der.proofs.Equal.{same-true}
+use Rattle.parts.proofs.Equal.{same-true}
 use Rattle.cert.specs.declared.Reading.the-variants.{Accepted}
 use Rattle.extensions.specs.declared.Slot.{Slot}
 use Rattle.cert.specs.Model.{readCertificate}

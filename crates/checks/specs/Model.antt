@@ -6,9 +6,10 @@ use mathlib.Core.Bool.{Bool, false, cond}
 use lib.ListN.{length}
 use lib.Dec.{ltb, eqb}
 use Rattle.refusal.specs.Refusals.{badDer, invalidCertValidity, certNotValidYet, certExpired, pathLenConstraintViolated, endEntityUsedAsCa, caUsedAsEndEntity, emptyEkuExtension, requiredEkuNotFound}
-use Rattle.values.specs.declared.small.Small.{Small}
-use Rattle.values.specs.declared.small.Small.the-variants.{Number, Refused as NoNumber}
-use Rattle.der.specs.Model.{expectAt, onContent, sameParts}
+use Rattle.values.specs.declared.Small.{Small}
+use Rattle.values.specs.declared.Small.the-variants.{Number, Refused as NoNumber}
+use Rattle.der.specs.Model.{expectAt, onContent}
+use Rattle.parts.specs.Model.{sameParts}
 use Rattle.values.specs.Model.{readSmall, readBool}
 use Rattle.der.specs.Loop.{walk}
 use Rattle.moment.specs.declared.Time.{Time}

@@ -2,8 +2,8 @@
 use cert::Certificate;
 use der::Got;
 use moment::Time;
-use values::small::Small;
-use values::small::Truth;
+use values::Small;
+use values::Truth;
 ghost use mathlib.Core.Path.{_≡_};
 ghost use Rattle.checks.specs.Model.{inTime, validAt, inRole, boundedRole, basicIn, basicOf, purposeIn, purposesOf, ownOf};
 
@@ -76,7 +76,7 @@ fn bounded_role(
 ) -> u16
     ensures { λ r. ⌜ r ≡ boundedRole (now (s .entry)) from to issuer authority below ⌝ }
 {
-    match values::small::read_small(s, from, to) {
+    match values::read_small(s, from, to) {
         Small::Number { value, next } => {
             let wrong = in_role(issuer, authority, value as usize, below);
             if wrong != 0 {
@@ -95,7 +95,7 @@ fn bounded_role(
 fn basic_in(s: &[u8], from: usize, to: usize, issuer: bool, below: usize) -> u16
     ensures { λ r. ⌜ r ≡ basicIn (now (s .entry)) from to issuer below ⌝ }
 {
-    match values::small::read_bool(s, from, to) {
+    match values::read_bool(s, from, to) {
         Truth::Is {
             value: authority,
             next,
@@ -127,7 +127,7 @@ fn purpose_in(s: &[u8], from: usize, to: usize, wanted: &[u8]) -> u16
     while at < to {
         match der::expect(s, at, to, 0x06, refusal::BAD_DER) {
             Got::Content(p) => {
-                if der::same(s, p.start, p.end, wanted, 0, wanted.len()) {
+                if parts::same(s, p.start, p.end, wanted, 0, wanted.len()) {
                     return 0;
                 }
                 at = p.end;

@@ -12,16 +12,16 @@ use Rattle.cert.specs.declared.Reading.{Reading}
 use Rattle.cert.specs.declared.Reading.the-variants.{Accepted, Refused as NotRead}
 use Rattle.cert.specs.Model.{readCertificate}
 use Rattle.cert.proofs.Refusals.{ReadingFair, reading-not, read-fair}
-use Rattle.constraints.specs.Rfc5280Names.{Others}
+use Rattle.subtrees.specs.Rfc5280Names.{Others}
 use Rattle.constraints.proofs.NeverWeaker.{never-weaker}
-use Rattle.path.specs.declared.candidate.Verdict.the-variants.{Anchor}
 use Rattle.checks.proofs.Skeletons.{certificate-reads}
-use Rattle.path.proofs.Verdicts.{anchor-sound}
+use Rattle.candidate.proofs.Verdicts.{anchor-sound, extend-sound}
 use Rattle.asked.proofs.Questions.{reply-sound, reply-complete}
 use Rattle.dialogue.specs.Model.{Path, signatures, Outcome, accepted, refused, spent, done}
 use Rattle.dialogue.specs.Dialogue.{Turn, answer, word, Leads, asked, follow, talk, Oracle, Veto, play, turnsOf, Agrees}
 use Rattle.dialogue.specs.Account.{Cleared, here, by-answer, Closing}
 use Rattle.dialogue.specs.Acceptable.{Given, GivenContent, By, ByContent}
+use Rattle.dialogue.specs.Work.{Sorted}
 use Rattle.dialogue.specs.Decided.{Decided as SearchDecided}
 use Rattle.dialogue.proofs.Answers.{leads, agrees, followed}
 use Rattle.dialogue.proofs.Sound.{weaker}
@@ -78,10 +78,14 @@ module _ (R : Request) (lent : Lends R) where
       (weaker (worldFor R) (endOf R) k p (λ key what y. (y .0, g .answers key what 0 (y .1))) (g .words k p 0) (acceptable R lent (GivenYes turns) (GivenContent turns) k p d))
       (d .named)
 
-  -- an anchor is one of the first
-  anchors-first : (path : Path) (i : ℕ) → worldFor R .verdict path i ≡ Anchor → i < length (R .subjects)
+  -- the first candidates are anchors, the others intermediates
+  sorted : Sorted (worldFor R) (length (R .subjects)) (length (R .issuers))
   unfolding worldOf
-  anchors-first path i e = anchor-sound (R .issuers) (R .end) (R .subjects) (R .keys) (R .distrusted) path i (bytes R lent) e .candidate
+  sorted = record {
+    all = refl;
+    tried = λ path i e. anchor-sound (R .issuers) (R .end) (R .subjects) (R .keys) (R .distrusted) path i (bytes R lent) e .candidate;
+    extended = λ path i e. extend-sound (R .issuers) (R .end) (R .subjects) (R .keys) (R .distrusted) path i (bytes R lent) e .candidate;
+  }
 
   unread-mild : (x : ℕ) → readCertificate (R .end) true ≡ NotRead x → Mild x
   unread-mild x e = by (readCertificate (R .end) true) e (read-fair (R .end) true)
@@ -106,7 +110,9 @@ module _ (R : Request) (lent : Lends R) where
     unfolding worldOf
     done-with q l =
         let d = looked q l in
-        searched q l (d .account) (d .extensions) (d .comparisons) (d .moves) (d .tries (length (R .subjects)) anchors-first) (d .lookups (length (R .subjects)) anchors-first) (λ l. d .looks l (length (R .distrusted)) (length (R .subjects)) anchors-first)
+        let A = length (R .subjects) in
+        let I = length (R .issuers) in
+        searched q l (d .account) (d .extensions) (d .comparisons) (d .moves) (d .tries A I sorted) (d .lookups A I sorted) (d .looks (length (R .distrusted)) A I sorted)
 
     module _ (r : Outcome) (h : Leads (decision R B) turns r) where
       yes : (k : ℕ) (p : Path) → r ≡ accepted k p → Conditions R (GivenYes turns) (GivenContent turns) k p

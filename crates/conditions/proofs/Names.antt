@@ -25,7 +25,7 @@ use Rattle.cert.proofs.Laws.{read-inside}
 use Rattle.cert.proofs.Refusals.{ReadingFair, reading-not, read-fair}
 use Rattle.names.specs.declared.general.Verdict.{Verdict}
 use Rattle.names.specs.declared.general.Verdict.the-variants.{Good, Refused}
-use Rattle.dns.specs.Names.{wantedName}
+use Rattle.labels.specs.Names.{wantedName}
 use Rattle.names.specs.General.{ForDns, ForIp, Reached}
 use Rattle.names.specs.Model.{goodForDns, goodForIp}
 use Rattle.names.proofs.Wanted.{dns-good, dns-refused, dns-malformed, ip-good, ip-refused}

@@ -6,18 +6,18 @@ use mathlib.Core.List.{List, [], _∷_, List·Memᴰ, List·Memᴰ·head, List·
 use native.Mathlib.Omega.{arith}
 use lib.ListN.{length, getD}
 use Rattle.cert.specs.declared.Reading.the-variants.{Accepted}
-use Rattle.path.specs.declared.candidate.Verdict.the-variants.{Extend}
+use Rattle.candidate.specs.declared.Verdict.the-variants.{Extend}
 use Rattle.lent.specs.Lent.{mostIntermediates, newest}
 use Rattle.checks.specs.Conditions.{Contents, Role, issuer, InValidity, InRole, ForPurpose}
 use Rattle.path.specs.Conditions.{Trusted, Fit, Same}
 use Rattle.checks.specs.Skeletons.{IsCertificate}
-use Rattle.path.specs.Candidates.{Extends, Anchors}
-use Rattle.path.specs.Paths.{InOrder}
+use Rattle.candidate.specs.Candidates.{Extends, Anchors}
+use Rattle.candidate.specs.Paths.{InOrder}
 use Rattle.asked.specs.Questions.{Opens}
 use Rattle.checks.proofs.Contents.{contentsOf}
 use Rattle.checks.proofs.Skeletons.{certificate-reads}
-use Rattle.path.proofs.Verdicts.{extend-sound, anchor-sound, anchor-complete}
-use Rattle.path.proofs.Paths.{Grown, grown-in-order, in-order-grown}
+use Rattle.candidate.proofs.Verdicts.{extend-sound, anchor-sound, anchor-complete}
+use Rattle.candidate.proofs.Paths.{Grown, grown-in-order, in-order-grown}
 use Rattle.dialogue.specs.Model.{Path, signatures}
 use Rattle.dialogue.specs.Acceptable.{InOrder as Cleared, Grown as Reached, start, grow, Acceptable}
 use Rattle.machine.specs.World.{worldOf}

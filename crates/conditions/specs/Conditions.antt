@@ -5,7 +5,7 @@ use mathlib.Core.Bool.{true}
 use mathlib.Core.List.{List, [], _∷_}
 use lib.ListN.{length, getD}
 use Rattle.der.specs.Places.{Bytes}
-use Rattle.dns.specs.Names.{wantedName}
+use Rattle.labels.specs.Names.{wantedName}
 use Rattle.names.specs.General.{ForDns, ForIp, Reached}
 use Rattle.lent.specs.Lent.{mostIntermediates, certificateOf}
 use Rattle.checks.specs.Conditions.{Optional, absent, present, Contents, endEntity, issuer, InValidity, InRole, ForPurpose}

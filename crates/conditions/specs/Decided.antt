@@ -11,7 +11,7 @@ use Rattle.dialogue.specs.Model.{Path, Outcome, accepted, refused, spent, event
 use Rattle.dialogue.specs.Dialogue.{Turn, answer, word, Leads, asked, Oracle, Veto, Agrees}
 use Rattle.dialogue.specs.Account.{Account, ownCost, Exhausted, UsedUp}
 use Rattle.dialogue.specs.Acceptable.{GivenContent, ByContent}
-use Rattle.dialogue.specs.Work.{weight, aTry, lookups, looks}
+use Rattle.dialogue.specs.Work.{placed, weight, aTry, lookups, looks, checkLooks, entered, levelLookups, levelLooks}
 use Rattle.conditions.specs.Request.{Request, Budgets}
 use Rattle.conditions.specs.Model.{nameOf, worldFor, endOf, searchOf}
 use Rattle.conditions.specs.Conditions.{Named, Conditions}
@@ -52,13 +52,14 @@ module _ (R : Request) (B : Budgets) (turns : List Turn) where
         → account .comparisons + ownCost (worldFor R) found ≤ B .comparisons
         -- at most (A + I + 1)(C + 1) events were gone through
         → length (account .before) + length (take 1 (account .after)) ≤ suc (endOf R) * suc (B .extensions)
-        -- at most A (C + 1) of them were anchors that were tried
-        → weight aTry (account .before) + weight aTry (take 1 (account .after)) ≤ length (R .subjects) * suc (B .extensions)
-        -- at most (35 A + 10 I + 10)(C + 1) times a certificate was looked up on the way, beside questions and answers
-        → weight lookups (account .before) + weight lookups (take 1 (account .after)) ≤ (10 * suc (endOf R) + 25 * length (R .subjects)) * suc (B .extensions)
-        -- and at most ((36 + 2 D)(A + I + 1) + A)(C + 1) l bytes were looked at in comparing and checking, where no slice of bytes that is lent is longer than l, and D keys are distrusted
-        → ((l : ℕ) → weight (looks l (length (R .distrusted))) (account .before) + weight (looks l (length (R .distrusted))) (take 1 (account .after))
-        ≤ ((36 + 2 * length (R .distrusted)) * l * suc (endOf R) + l * length (R .subjects)) * suc (B .extensions))
+        -- at most A (C + 1) of those that it came to were anchors that were tried
+        → weight aTry (take (suc (length (account .before))) (placed (worldFor R) (endOf R))) ≤ length (R .subjects) * suc (B .extensions)
+        -- certificates looked up on the way, beside questions and answers: at most as many as where C + 1 paths are gone through whole, each as long as it can be
+        → weight (lookups (length (R .subjects)) (endOf R)) (take (suc (length (account .before))) (placed (worldFor R) (endOf R))) + account .extensions
+        ≤ entered (levelLookups (length (R .subjects)) (length (R .issuers))) 0 (suc (B .extensions)) + B .extensions
+        -- and bytes looked at in comparing and checking, in lengths of the longest slice of bytes that is lent
+        → weight (looks (length (R .distrusted)) (length (R .subjects)) (endOf R)) (take (suc (length (account .before))) (placed (worldFor R) (endOf R))) + checkLooks (length (R .distrusted)) * suc (account .extensions)
+        ≤ entered (levelLooks (length (R .distrusted)) (length (R .subjects)) (length (R .issuers))) 0 (suc (B .extensions)) + checkLooks (length (R .distrusted)) * suc (B .extensions)
         → Work
 
   pub record Decided (r : Outcome) : Type 0 where

@@ -2,7 +2,7 @@
 use Prim.Native.Nat.{ℕ}
 use mathlib.Core.List.{[], map}
 use lib.ListN.{length, getD}
-use Rattle.constraints.specs.Rfc5280Names.{Others}
+use Rattle.subtrees.specs.Rfc5280Names.{Others}
 use Rattle.constraints.specs.Conform.{PathMet}
 use Rattle.dialogue.specs.Model.{Path}
 use Rattle.machine.specs.World.{isBound, namesOf}

@@ -1,42 +1,18 @@
--- Laws of the model that the functions' proofs cite: each turn and exit of a loop, a cut, and the certificates of a path. Assumes nothing.
+-- Laws of the model that the functions' proofs cite: the certificates of a path. Assumes nothing.
 use Prim.Native.Nat.{ℕ, zero, suc, _-_, _≤_, _<_}
-use mathlib.Core.Path.{_≡_, refl, sym, _∙_}
+use mathlib.Core.Path.{_≡_, refl}
 use mathlib.Core.List.{List, [], _∷_, map}
-use lib.ListN.{length, getD, take, drop, length-drop, length-map, drop-of-length-le, List·getD-eq-default}
-use lib.Seq.{take-all}
+use lib.ListN.{length, getD, length-map, List·getD-eq-default}
 use native.Mathlib.Omega.{arith}
 use borrow.Author.Tests.{lt-ltb, le-ltb}
 use denote.Ref.{RefT, now}
-use Rattle.der.specs.Places.{part}
 use Rattle.cert.specs.declared.Reading.{Reading}
 use Rattle.table.specs.Model.{readingIn}
 use Rattle.table.proofs.Laws.{behind}
-use Rattle.names.specs.declared.general.Name.{Name}
-use Rattle.names.specs.declared.general.Name.the-variants.{Found, Refused as NoName}
-use Rattle.entries.specs.Tally.{Tally, tally, clean, after}
-use Rattle.entries.specs.Model.{onName}
-use Rattle.constraints.specs.declared.Subtrees.{Subtrees}
-use Rattle.constraints.specs.Paths.{Noted, noted, lower, rowOf, certAt, certsAt}
-use Rattle.constraints.specs.Model.{name, nextName, ownIn, issuersIn}
-
--- ---- the loop over the names
-pub next-found : (s : List ℕ) (lists : Subtrees) (t : List ℕ) {n : Name} {kind start end : ℕ} → n ≡ Found kind start end → (k : ℕ → Unit {0} → Tally)
-    → nextName s lists t n k ≡ after (name s lists kind (part t start end)) (k end tt)
-unfolding nextName onName
-next-found s lists t e k = rw e
-
-pub next-broken : (s : List ℕ) (lists : Subtrees) (t : List ℕ) {n : Name} {e : ℕ} → n ≡ NoName e → (k : ℕ → Unit {0} → Tally) → nextName s lists t n k ≡ tally 0 e
-unfolding nextName onName
-next-broken s lists t h k = rw h
-
--- ---- a cut that begins past the end, and one that ends there
-pub cut-none : (s : List ℕ) (a b : ℕ) → length s ≤ a → [] ≡ part s a b
-unfolding part
-cut-none s a b h = rw (drop-of-length-le s h) (sym (take-all (b - a) [] (omega arith)))
-
-pub cut-rest : (s : List ℕ) (a b : ℕ) → length s < b → take (length s - a) (drop a s) ≡ part s a b
-unfolding part
-cut-rest s a b h = take-all (length s - a) (drop a s) (simp length-drop (omega arith)) ∙ sym (take-all (b - a) (drop a s) (simp length-drop (omega arith)))
+use Rattle.entries.specs.Tally.{clean, after}
+use Rattle.subtrees.specs.Noted.{Noted, noted}
+use Rattle.constraints.specs.Paths.{lower, rowOf, certAt, certsAt}
+use Rattle.constraints.specs.Model.{ownIn, issuersIn}
 
 -- ---- a path
 module _ (T : List (List ℕ)) (l : List (RefT (List ℕ))) (end : List ℕ) (i : ℕ) (r : Reading) where

@@ -35,17 +35,20 @@ use Rattle.entries.specs.Kinds.{directoryName}
 use Rattle.entries.specs.Tally.{Tally, tally, clean, after}
 use Rattle.entries.specs.Model.{onName, compared}
 use Rattle.entries.proofs.Refusals.{Called, name-called}
-use Rattle.constraints.specs.declared.Subtrees.{Subtrees}
-use Rattle.constraints.specs.declared.Lists.{Lists}
-use Rattle.constraints.specs.declared.Lists.the-variants.{Are, Refused as NoLists}
-use Rattle.constraints.specs.Rfc5280Names.{subtrees, Field, absent, present, Others, In, Some, OfKind, Conforms}
-use Rattle.constraints.specs.Conform.{EachBytes, Presents, Presented, none, more, Met, OwnMet, IssuersMet, last, more as also, PathMet}
-use Rattle.constraints.specs.Paths.{lent}
-use Rattle.constraints.specs.Model.{listAt, subtreesAt, name, nextName, alternatives, certificate, belowIn, below, constraints, own, anchoredIn, anchored, issuersIn, issuers, pathConstraintsIn, cost, named}
-use Rattle.constraints.proofs.Refusals.{Listed, lists-listed}
-use Rattle.constraints.proofs.EachKind.{permitted-in, excluded-out, formed-yes, formed-no}
-use Rattle.constraints.proofs.Accepted.{BothPass, both-pass, part-empty, bytes-part, bases, entries-pass, gone-hit, gone-out}
-use Rattle.constraints.proofs.Turns.{certificate-is, certificate-unread, constraints-are, constraints-none, own-bound, own-free, own-unread}
+use Rattle.subtrees.specs.declared.Subtrees.{Subtrees}
+use Rattle.subtrees.specs.declared.Lists.{Lists}
+use Rattle.subtrees.specs.declared.Lists.the-variants.{Are, Refused as NoLists}
+use Rattle.subtrees.specs.Rfc5280Names.{subtrees, Field, absent, present, Others, In, Some, OfKind, Conforms}
+use Rattle.subtrees.specs.Presents.{Presents}
+use Rattle.constraints.specs.Conform.{EachBytes, Presented, none, more, Met, OwnMet, IssuersMet, last, more as also, PathMet}
+use Rattle.subtrees.specs.Noted.{lent}
+use Rattle.subtrees.specs.Model.{listAt, subtreesAt, name, nextName, alternatives, certificate}
+use Rattle.constraints.specs.Model.{belowIn, below, constraints, own, anchoredIn, anchored, issuersIn, issuers, pathConstraintsIn, cost, named}
+use Rattle.subtrees.proofs.Refusals.{Listed, lists-listed}
+use Rattle.subtrees.proofs.EachKind.{permitted-in, excluded-out, formed-yes, formed-no}
+use Rattle.subtrees.proofs.Accepted.{BothPass, both-pass, part-empty, bytes-part, bases, entries-pass, gone-hit, gone-out}
+use Rattle.subtrees.proofs.Laws.{certificate-is, certificate-unread}
+use Rattle.constraints.proofs.Turns.{constraints-are, constraints-none, own-bound, own-free, own-unread}
 
 -- ---- lists of names
 some-map : (P Q R : General → Type 0) (es : List General) → ((e : General) → P e → R e → Q e) → Some P es → Each R es → Some Q es

@@ -1,4 +1,4 @@
--- Each exit and each turn of the checks above one name, with a budget: a certificate, an issuer's constraints, a path. Assumes nothing.
+-- Each exit and each turn of the checks above one certificate, with a budget: an issuer's constraints, a path. Assumes nothing.
 use Prim.Native.Nat.{ℕ, _-_}
 use mathlib.Core.Path.{_≡_, refl, sym, ap, _∙_}
 use mathlib.Core.List.{List, map}
@@ -7,16 +7,17 @@ use lib.ListN.{getD}
 use lib.Dec.{eqb}
 use borrow.Author.Tests.{eq-eqb, ne-eqb}
 use Rattle.refusal.specs.Refusals.{badDer}
-use Rattle.der.specs.Places.{part}
 use Rattle.cert.specs.declared.Certificate.{Certificate}
 use Rattle.cert.specs.declared.Reading.the-variants.{Accepted, Refused as NotRead}
 use Rattle.entries.specs.declared.Spent.{Spent}
 use Rattle.entries.specs.Tally.{Tally, tally, clean, after, spend}
 use Rattle.entries.proofs.Spending.{at-once, refused-first, passed-first}
-use Rattle.constraints.specs.declared.Subtrees.{Subtrees}
-use Rattle.constraints.specs.declared.Lists.the-variants.{Are, Refused as NoLists}
-use Rattle.constraints.specs.Paths.{Noted, lower, certAt, certsAt}
-use Rattle.constraints.specs.Model.{name, alternatives, onRead, certificateAs, subtreesAt, onLists, belowIn, constraintsIn, ownIn, issuersIn}
+use Rattle.subtrees.specs.declared.Subtrees.{Subtrees}
+use Rattle.subtrees.specs.declared.Lists.the-variants.{Are, Refused as NoLists}
+use Rattle.subtrees.specs.Noted.{Noted}
+use Rattle.constraints.specs.Paths.{lower, certAt, certsAt}
+use Rattle.subtrees.specs.Model.{onRead, certificateAs, subtreesAt}
+use Rattle.constraints.specs.Model.{onLists, belowIn, constraintsIn, ownIn, issuersIn}
 use Rattle.constraints.proofs.Laws.{lowest, higher, issuers-more, issuers-last}
 
 -- a check that refuses nothing, and nothing after it
@@ -24,17 +25,6 @@ pub passed-last : (left : ℕ) (a : Tally) (x : Spent) → x ≡ spend left a �
 passed-last left a x e z =
     let f : x ≡ record { left = x .left; refusal = 0 } = ap (λ (r : ℕ). let y : Spent = record { left = x .left; refusal = r } in y) z in
     f ∙ sym (at-once (x .left) 0) ∙ passed-first left a clean x e z
-
--- ---- one certificate
-module _ (s : List ℕ) (lists : Subtrees) (t : Noted) where
-  pub certificate-is : (c : Certificate) → t .reading ≡ Accepted c
-      → certificateAs s lists t ≡ after (alternatives s lists (t .bytes) (c .known .«alternative_name» .start) (c .known .«alternative_name» .end)) (name s lists 164 (part (t .bytes) (c .subject .start) (c .subject .end)))
-  unfolding certificateAs onRead
-  certificate-is c e = rw e
-
-  pub certificate-unread : (e : ℕ) → t .reading ≡ NotRead e → certificateAs s lists t ≡ tally 0 badDer
-  unfolding certificateAs onRead
-  certificate-unread e h = rw h
 
 -- ---- the certificates of a path from level k down
 module _ (s : List ℕ) (lists : Subtrees) (T I : List (List ℕ)) (end path : List ℕ) (k i left : ℕ) (one whole : Spent) (number : i ≡ getD path k 0)

@@ -9,25 +9,14 @@ use Rattle.der.specs.Places.{Bytes, part}
 use Rattle.cert.specs.declared.Certificate.{Certificate}
 use Rattle.cert.specs.declared.Reading.the-variants.{Accepted}
 use Rattle.cert.specs.Model.{readCertificate}
-use Rattle.names.specs.General.{General, Named, encoded, Each}
-use Rattle.entries.specs.Kinds.{directoryName}
-use Rattle.constraints.specs.Rfc5280Names.{NameConstraints, Others, Conforms}
+use Rattle.names.specs.General.{General, Each}
+use Rattle.subtrees.specs.Rfc5280Names.{NameConstraints, Others, Conforms}
+use Rattle.subtrees.specs.Presents.{Presents}
 
 -- bytes, as every certificate has them
 unfoldable pub EachBytes : List (List ℕ) → Type 0
 EachBytes [] = Unit {0}
 EachBytes (c ∷ cs) = Bytes c × EachBytes cs
-
--- the names of a certificate: its alternative names, and its subject, which is a directory name. THE ONE EXCEPTION: 4.2.1.10 has entries of
--- kind rfc822Name apply to a mail address in the subject too, where there is no alternative name. Nothing here looks into a subject, so that
--- such an address is not among the names; docs/DIFFERENCES.md has a certificate that shows it.
-pub record Presents (t : List ℕ) (names : List General) : Type 0 where
-  pub c : Certificate
-  pub read : readCertificate t true ≡ Accepted c
-  pub alternative : List General
-  pub is : part t (c .known .«alternative_name» .start) (c .known .«alternative_name» .end) ≡ encoded alternative
-  pub named : Each Named alternative
-  pub all : names ≡ alternative ++ (record { kind = directoryName; content = part t (c .subject .start) (c .subject .end) } ∷ [])
 
 -- those of several certificates
 pub data Presented : List (List ℕ) → List General → Type 0 where

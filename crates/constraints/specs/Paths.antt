@@ -1,24 +1,11 @@
 -- A path by the numbers of its certificates, as a list of their bytes and of what is known of each.
 use Prim.Native.Nat.{ℕ, zero, suc}
 use mathlib.Core.List.{List, [], _∷_, map}
-use mathlib.Core.Bool.{true, cond}
+use mathlib.Core.Bool.{cond}
 use lib.ListN.{length, getD}
 use lib.Dec.{ltb}
-use Rattle.cert.specs.declared.Reading.{Reading}
-use Rattle.cert.specs.Model.{readCertificate}
 use Rattle.table.specs.Model.{readingIn}
-
--- a certificate: its bytes, and what is known of it
-pub record Noted : Type 0 where
-  pub bytes : List ℕ
-  pub reading : Reading
-
-abbrev pub noted : List ℕ → Reading → Noted
-noted s r = record { bytes = s; reading = r }
-
--- a certificate of which is known what is read
-abbrev pub lent : List ℕ → Noted
-lent s = noted s (readCertificate s true)
+use Rattle.subtrees.specs.Noted.{Noted, noted}
 
 -- the numbers below level d, the highest first, and those up to it
 unfoldable pub lower : List ℕ → ℕ → List ℕ

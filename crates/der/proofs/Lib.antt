@@ -2,11 +2,9 @@ pub mod Laws
 pub mod Invert
 pub mod Parts
 pub mod Loop
-pub mod Equal
 pub mod Sound
 pub mod Complete
 pub mod Theorems
-pub mod Row
 pub mod Minimum
 pub mod Laid
 pub mod Exact

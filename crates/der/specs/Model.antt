@@ -1,21 +1,16 @@
 -- What the code answers, as functions of the bytes: the same tests in the same order.
 use Prim.Native.Nat.{ℕ, zero, suc, _+_, _-_, _*_, _%_, _<_}
 use mathlib.Core.Path.{_≡_}
-use mathlib.Core.List.{List, [], _∷_}
-use mathlib.Core.Bool.{Bool, true, false, cond}
+use mathlib.Core.List.{List, _∷_}
+use mathlib.Core.Bool.{Bool, cond}
 use lib.ListN.{length, getD}
 use lib.Dec.{ltb, leb, eqb}
 use Rattle.der.specs.declared.Length.{Length}
 use Rattle.der.specs.declared.Length.the-variants.{Is, Bad}
 use Rattle.der.specs.declared.Read.{Read}
 use Rattle.der.specs.declared.Read.the-variants.{Value, Refused}
-use Rattle.der.specs.declared.Span.{Span}
 use Rattle.der.specs.declared.Got.{Got}
 use Rattle.der.specs.declared.Got.the-variants.{Content, Refused as NoContent}
-use Rattle.der.specs.declared.Count.{Count}
-use Rattle.der.specs.declared.Count.the-variants.{Values, Broken}
-use Rattle.der.specs.Places.{part}
-use Rattle.der.specs.Loop.{walk}
 
 -- a byte, as a number to count with
 pub record ByteAt (s : List ℕ) (at r : ℕ) : Type 0 where
@@ -86,31 +81,3 @@ expectAt s from to tag refusal = ofTag tag refusal (readValue s from to)
 unfoldable pub onContent : {R : Type 0} → Got → (ℕ → R) → (ℕ → ℕ → R) → R
 onContent (Content p) other k = k (p .start) (p .end)
 onContent (NoContent e) other k = other e
-
--- ---- values in a row
-unfoldable pub oneMore : Read → ℕ → (ℕ → ℕ → Count) → Count
-oneMore (Value tag start end) n go = go end (n + 1)
-oneMore Refused n go = Broken
-
-unfoldable pub allCounted : ℕ → ℕ → ℕ → Count
-allCounted to at n = cond (eqb at to) (Values n) Broken
-
-unfoldable pub countValues : List ℕ → ℕ → ℕ → Count
-countValues s from to = walk to (allCounted to) (λ at n. oneMore (readValue s at to) n) from 0
-
--- ---- two parts
-unfoldable pub sameList : List ℕ → List ℕ → Bool
-sameList [] [] = true
-sameList [] (y ∷ ys) = false
-sameList (x ∷ xs) [] = false
-sameList (x ∷ xs) (y ∷ ys) = cond (eqb x y) (sameList xs ys) false
-
-unfoldable pub sameParts : List ℕ → ℕ → ℕ → List ℕ → ℕ → ℕ → Bool
-sameParts s a b t c d =
-    cond (ltb b a)
-    false
-    (cond (ltb (length s) b)
-    false
-    (cond (ltb d c)
-    false
-    (cond (ltb (length t) d) false (sameList (part s a b) (part t c d)))))

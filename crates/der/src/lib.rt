@@ -3,7 +3,7 @@
 ghost use mathlib.Core.Path.{_≡_};
 ghost use Prim.Native.Nat.{_+_, _≤_, _<_};
 ghost use lib.ListN.{length};
-ghost use Rattle.der.specs.Model.{ByteAt, highTag, longForm, readLength, readLimited, readValue, expectAt, countValues, sameParts};
+ghost use Rattle.der.specs.Model.{ByteAt, highTag, longForm, readLength, readLimited, readValue, expectAt};
 
 // Every content in a certificate is shorter than this.
 pub const LIMIT: usize = 65535;
@@ -29,12 +29,6 @@ pub struct Span {
 pub enum Got {
     Content(Span),
     Refused(u16),
-}
-
-// How many values stand in a row.
-pub enum Count {
-    Values(usize),
-    Broken,
 }
 
 // Whether a tag byte announces a tag of more bytes.
@@ -200,61 +194,4 @@ pub fn expect(s: &[u8], from: usize, to: usize, tag: u8, refusal: u16) -> Got
         }
         Read::Refused => Got::Refused(refusal),
     }
-}
-
-// How many values stand between two places, one after the other and nothing after them.
-pub fn count_values(s: &[u8], from: usize, to: usize) -> Count
-    ensures { λ r. ⌜ r ≡ countValues (now (s .entry)) from to ⌝ }
-{
-    let mut at = from;
-    let mut n: usize = 0;
-    while at < to {
-        match read_value(s, at, to) {
-            Read::Value {
-                tag: _,
-                start: _,
-                end,
-            } => {
-                at = end;
-                n += 1;
-            }
-            Read::Refused => {
-                return Count::Broken;
-            }
-        }
-    }
-    if at == to {
-        Count::Values(n)
-    } else {
-        Count::Broken
-    }
-}
-
-// Whether s[a..b] and t[c..d] hold the same bytes. Places out of order or out of the slice hold none that are the same.
-pub fn same(s: &[u8], a: usize, b: usize, t: &[u8], c: usize, d: usize) -> bool
-    ensures { λ r. ⌜ r ≡ sameParts (now (s .entry)) a b (now (t .entry)) c d ⌝ }
-{
-    if b < a {
-        return false;
-    }
-    if s.len() < b {
-        return false;
-    }
-    if d < c {
-        return false;
-    }
-    if t.len() < d {
-        return false;
-    }
-    if b - a != d - c {
-        return false;
-    }
-    let mut i: usize = 0;
-    while i < b - a {
-        if s[a + i] != t[c + i] {
-            return false;
-        }
-        i += 1;
-    }
-    true
 }

@@ -1,11 +1,9 @@
 // Reads each line of hexadecimal digits in every way that crate `der` offers, from its first byte to its last, and prints what it finds.
-use der::Count;
 use der::Got;
 use der::Read;
-use values::bits;
-use values::small;
-use values::small::Small;
-use values::small::Truth;
+use parts::Count;
+use values::Small;
+use values::Truth;
 
 fn put(text: &[u8]) {
     io::write_all(1, text);
@@ -47,7 +45,7 @@ fn value(s: &[u8]) {
 }
 
 fn boolean(s: &[u8]) {
-    match small::read_bool(s, 0, s.len()) {
+    match values::read_bool(s, 0, s.len()) {
         Truth::Is { value, next } => {
             if value {
                 put(b" true");
@@ -61,7 +59,7 @@ fn boolean(s: &[u8]) {
 }
 
 fn one_byte(s: &[u8]) {
-    match small::read_small(s, 0, s.len()) {
+    match values::read_small(s, 0, s.len()) {
         Small::Number { value, next } => {
             number(value as usize);
             number(next);
@@ -85,7 +83,7 @@ fn flags(s: &[u8]) {
 }
 
 fn row(s: &[u8]) {
-    match der::count_values(s, 0, s.len()) {
+    match parts::count_values(s, 0, s.len()) {
         Count::Values(n) => number(n),
         Count::Broken => put(b" BadDer"),
     }
@@ -100,7 +98,7 @@ fn show(s: &[u8]) {
     put(b"; byte");
     one_byte(s);
     put(b"; digits");
-    got(small::nonnegative_at(s, 0, all));
+    got(values::nonnegative_at(s, 0, all));
     put(b"; bits");
     got(bits::bits_at(s, 0, all));
     put(b"; flags");

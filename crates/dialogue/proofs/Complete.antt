@@ -8,7 +8,7 @@ use native.Mathlib.Omega.{arith}
 use lib.ListN.{length}
 use Rattle.refusal.specs.Refusals.{unknownIssuer}
 use Rattle.lent.specs.Lent.{mostIntermediates}
-use Rattle.path.specs.declared.candidate.Verdict.the-variants.{Anchor}
+use Rattle.candidate.specs.declared.Verdict.the-variants.{Anchor}
 use Rattle.dialogue.specs.Model.{Path, Stage, World, Event, try, refused, events, search}
 use Rattle.dialogue.specs.Dialogue.{Turn, Leads, Oracle, Veto, Agrees}
 use Rattle.dialogue.specs.Account.{kept, First, Cleared, here, by-check, by-answer, Declined, at-check, at-answer, at-names, at-offer, Past, noted, extended, left, declined, Gone, nothing, more, Last, no-events, content, no-signatures, no-extensions, no-comparisons, Account, Exhausted}

@@ -37,5 +37,5 @@ module _ (W : World) (end s b n : ℕ) (turns : List Turn) (r : Outcome) (h : Le
     moves = few-events W end s b n turns r h;
     tries = few-tries W end s b n turns r h;
     lookups = few-lookups W end s b n turns r h;
-    looks = few-looks W end s b n turns r h;
+    looks = λ distrusted anchors issuers sorted. few-looks W end s b n turns r h anchors issuers sorted distrusted;
   }

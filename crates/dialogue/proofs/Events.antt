@@ -8,8 +8,8 @@ use native.Mathlib.Nat.{eq-or-lt-of-le}
 use lib.ListN.{length}
 use Rattle.refusal.specs.Refusals.{maximumPathDepthExceeded}
 use Rattle.lent.specs.Lent.{mostIntermediates}
-use Rattle.path.specs.declared.candidate.Verdict.{Verdict}
-use Rattle.path.specs.declared.candidate.Verdict.the-variants.{Pass, Anchor, Extend}
+use Rattle.candidate.specs.declared.Verdict.{Verdict}
+use Rattle.candidate.specs.declared.Verdict.the-variants.{Pass, Anchor, Extend}
 use Rattle.dialogue.specs.Model.{Path, World, Event, note, extension, try, leave, one, each, node, enter, events}
 use Rattle.dialogue.specs.Acceptable.{Grown, start, grow}
 

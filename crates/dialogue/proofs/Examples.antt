@@ -7,10 +7,11 @@ use lib.Dec.{eqb, ltb}
 use lib.ListN.{length}
 use Rattle.refusal.specs.Refusals.{rankOf, unknownIssuer, certExpired, invalidSignatureForPublicKey, maximumPathDepthExceeded, maximumSignatureChecksExceeded, maximumPathBuildCallsExceeded, maximumNameConstraintComparisonsExceeded}
 use Rattle.refusal.specs.Model.{worseOf}
-use Rattle.path.specs.declared.candidate.Verdict.{Verdict}
-use Rattle.path.specs.declared.candidate.Verdict.the-variants.{Pass, Anchor, Extend}
+use Rattle.candidate.specs.declared.Verdict.{Verdict}
+use Rattle.candidate.specs.declared.Verdict.the-variants.{Pass, Anchor, Extend}
 use Rattle.dialogue.specs.Model.{Path, World, signatures, accepted, refused, spent, one, each, node, enter, events, through, conclude, run, search}
 use Rattle.dialogue.specs.Dialogue.{answer, word, play, turnsOf}
+use Rattle.dialogue.specs.Work.{oneAt, eachAt, nodeAt, enterAt, placed, weight, aTry, pairs, tryLookups, issuerLookups, lookups, anchorLooks, tryLooks, issuerLooks, looks, longest, entered, levelLookups, levelLooks}
 
 -- candidate i issued i + 1; the first ones are anchors
 abbrev chosen : ℕ → Path → ℕ → Verdict
@@ -66,3 +67,35 @@ said = (refl, refl, refl, refl, refl, refl, refl, refl, refl, refl, refl)
 pub all-moves : length (events (world 0 2) 2) ≡ suc 2 * suc 2
 unfolding events enter node each one
 all-moves = refl
+
+-- ---- the bounds by the length of the path are reached: one path of each length up to six, and as many of seven as there are intermediates
+-- the anchors are tried at every path; the first intermediate extends those below six certificates, each one those of six, and none longer ones
+abbrev tried : ℕ → Path → ℕ → Verdict
+tried anchors path i =
+    cond (ltb i anchors) Anchor
+    (cond (ltb (length path) 6) (cond (eqb i anchors) Extend (Pass unknownIssuer))
+    (cond (eqb (length path) 6) Extend (Pass unknownIssuer)))
+
+abbrev wide : ℕ → ℕ → World
+wide anchors last = record {
+  candidates = last;
+  verdict = tried anchors;
+  check = λ p. 0;
+  stages = signatures;
+  reply = λ k w a. a;
+  cost = λ k p. 0;
+  named = λ k p. 0;
+}
+
+abbrev wrong : ℕ → ℕ → ℕ
+wrong k w = invalidSignatureForPublicKey
+
+-- two anchors, two intermediates and the end entity 4; seven extensions, with which all is gone through; with one fewer it is not
+pub all-work :
+    (play wrong content (search (wide 2 4) 4 16 7 0) ≡ refused invalidSignatureForPublicKey)
+    × (play wrong content (search (wide 2 4) 4 16 6 0) ≡ spent maximumPathBuildCallsExceeded)
+    × (weight aTry (placed (wide 2 4) 4) ≡ 2 * suc 7)
+    × (weight (lookups 2 4) (placed (wide 2 4) 4) ≡ entered (levelLookups 2 2) 0 (suc 7))
+    × (weight (looks 3 2 4) (placed (wide 2 4) 4) ≡ entered (levelLooks 3 2 2) 0 (suc 7))
+unfolding search events enter node each one run through conclude signatures play worseOf rankOf placed enterAt nodeAt eachAt oneAt weight aTry lookups looks pairs tryLookups issuerLookups anchorLooks tryLooks issuerLooks levelLookups levelLooks entered longest
+all-work = (refl, refl, refl, refl, refl)

@@ -8,8 +8,8 @@ use Rattle.refusal.specs.Refusals.{unknownIssuer, maximumPathDepthExceeded, max
 use Rattle.refusal.specs.Model.{worseOf}
 use Rattle.refusal.proofs.Laws.{worse-assoc, worse-keeps}
 use Rattle.lent.specs.Lent.{mostIntermediates}
-use Rattle.path.specs.declared.candidate.Verdict.{Verdict}
-use Rattle.path.specs.declared.candidate.Verdict.the-variants.{Pass, Anchor, Extend}
+use Rattle.candidate.specs.declared.Verdict.{Verdict}
+use Rattle.candidate.specs.declared.Verdict.the-variants.{Pass, Anchor, Extend}
 use Rattle.dialogue.specs.Model.{Path, Stage, question, finding, World, Event, try, leave, refused, spent, Tree, done, ask, offer, unless, through, conclude, run, one, each, node, enter, events, search}
 use Rattle.dialogue.specs.Recursion.{Back, attempt, candidate, candidates, step, told}
 

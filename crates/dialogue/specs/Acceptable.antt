@@ -4,7 +4,7 @@ use mathlib.Core.Path.{_≡_}
 use mathlib.Core.List.{List, [], _∷_, List·Memᴰ}
 use lib.ListN.{length}
 use Rattle.lent.specs.Lent.{mostIntermediates}
-use Rattle.path.specs.declared.candidate.Verdict.the-variants.{Anchor, Extend}
+use Rattle.candidate.specs.declared.Verdict.the-variants.{Anchor, Extend}
 use Rattle.dialogue.specs.Model.{Path, Stage, question, finding, World}
 use Rattle.dialogue.specs.Dialogue.{Turn, answer, word, Oracle, Veto}
 

@@ -6,11 +6,10 @@ use mathlib.Core.Logic.{_⊎_}
 use mathlib.Core.List.{List}
 use lib.ListN.{length, take}
 use Rattle.refusal.specs.Refusals.{rankOf, isFatal, unknownIssuer}
-use Rattle.path.specs.declared.candidate.Verdict.the-variants.{Anchor}
 use Rattle.dialogue.specs.Model.{Path, World, Outcome, accepted, refused, spent, events}
 use Rattle.dialogue.specs.Dialogue.{Turn, asked, Oracle, Veto, Agrees}
 use Rattle.dialogue.specs.Account.{Account, ownCost, Closing, Exhausted, UsedUp}
-use Rattle.dialogue.specs.Work.{weight, aTry, lookups as lookupsAt, looks as looksAt}
+use Rattle.dialogue.specs.Work.{placed, weight, aTry, lookups as lookupsAt, looks as looksAt, checkLooks, entered, levelLookups, levelLooks, Sorted}
 use Rattle.dialogue.specs.Acceptable.{Acceptable, Given, GivenContent, By, ByContent}
 
 pub record Decided (W : World) (end s b n : ℕ) (turns : List Turn) (r : Outcome) : Type 0 where
@@ -32,10 +31,11 @@ pub record Decided (W : World) (end s b n : ℕ) (turns : List Turn) (r : Outcom
   pub extensions : account .extensions ≤ b
   pub comparisons : account .comparisons + ownCost W r ≤ n
   pub moves : length (account .before) + length (take 1 (account .after)) ≤ suc (W .candidates) * suc b
-  -- anchors tried, where only the first candidates are anchors
-  pub tries : (anchors : ℕ) → ((path : Path) (i : ℕ) → W .verdict path i ≡ Anchor → i < anchors) → weight aTry (account .before) + weight aTry (take 1 (account .after)) ≤ anchors * suc b
-  -- certificates looked up, and bytes looked at
-  pub lookups : (anchors : ℕ) → ((path : Path) (i : ℕ) → W .verdict path i ≡ Anchor → i < anchors)
-      → weight lookupsAt (account .before) + weight lookupsAt (take 1 (account .after)) ≤ (10 * suc (W .candidates) + 25 * anchors) * suc b
-  pub looks : (l d anchors : ℕ) → ((path : Path) (i : ℕ) → W .verdict path i ≡ Anchor → i < anchors)
-      → weight (looksAt l d) (account .before) + weight (looksAt l d) (take 1 (account .after)) ≤ ((36 + 2 * d) * l * suc (W .candidates) + l * anchors) * suc b
+  -- the events that the run came to weigh no more than this, where the first candidates are anchors and the others intermediates: anchors tried;
+  -- certificates looked up, once more for each extension, whose own checks need it; bytes looked at, in lengths of the longest slice that is lent
+  pub tries : (anchors issuers : ℕ) → Sorted W anchors issuers → weight aTry (take (suc (length (account .before))) (placed W end)) ≤ anchors * suc b
+  pub lookups : (anchors issuers : ℕ) → Sorted W anchors issuers
+      → weight (lookupsAt anchors (W .candidates)) (take (suc (length (account .before))) (placed W end)) + account .extensions ≤ entered (levelLookups anchors issuers) 0 (suc b) + b
+  pub looks : (distrusted anchors issuers : ℕ) → Sorted W anchors issuers
+      → weight (looksAt distrusted anchors (W .candidates)) (take (suc (length (account .before))) (placed W end)) + checkLooks distrusted * suc (account .extensions)
+      ≤ entered (levelLooks distrusted anchors issuers) 0 (suc b) + checkLooks distrusted * suc b

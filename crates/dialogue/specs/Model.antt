@@ -9,8 +9,8 @@ use lib.Dec.{ltb}
 use Rattle.refusal.specs.Refusals.{unknownIssuer, maximumPathDepthExceeded, maximumSignatureChecksExceeded, maximumPathBuildCallsExceeded, maximumNameConstraintComparisonsExceeded}
 use Rattle.refusal.specs.Model.{worseOf}
 use Rattle.lent.specs.Lent.{mostIntermediates}
-use Rattle.path.specs.declared.candidate.Verdict.{Verdict}
-use Rattle.path.specs.declared.candidate.Verdict.the-variants.{Pass, Anchor, Extend}
+use Rattle.candidate.specs.declared.Verdict.{Verdict}
+use Rattle.candidate.specs.declared.Verdict.the-variants.{Pass, Anchor, Extend}
 
 abbrev pub Path : Type 0
 Path = List ℕ

@@ -6,8 +6,8 @@ use mathlib.Core.List.{[], _∷_}
 use Rattle.refusal.specs.Refusals.{unknownIssuer, maximumPathDepthExceeded, maximumPathBuildCallsExceeded}
 use Rattle.refusal.specs.Model.{worseOf}
 use Rattle.lent.specs.Lent.{mostIntermediates}
-use Rattle.path.specs.declared.candidate.Verdict.{Verdict}
-use Rattle.path.specs.declared.candidate.Verdict.the-variants.{Pass, Anchor, Extend}
+use Rattle.candidate.specs.declared.Verdict.{Verdict}
+use Rattle.candidate.specs.declared.Verdict.the-variants.{Pass, Anchor, Extend}
 use Rattle.dialogue.specs.Model.{Path, World, refused, spent, Tree, done, unless, through, conclude}
 
 abbrev pub Back : Type 0

@@ -1,13 +1,19 @@
--- What events come to, each with a weight: how much a run goes through.
-use Prim.Native.Nat.{ℕ, zero, suc, _+_, _*_}
-use mathlib.Core.List.{List, [], _∷_}
-use Rattle.dialogue.specs.Model.{Event, note, extension, try, leave}
+-- How much a run goes through: its events, each with the path at which it happens and the candidate that it is about, and what they weigh.
+use Prim.Native.Nat.{ℕ, zero, suc, _+_, _*_, _≤_, _<_}
+use mathlib.Core.Path.{_≡_}
+use mathlib.Core.Bool.{cond}
+use mathlib.Core.List.{List, [], _∷_, _++_}
+use lib.ListN.{length}
+use lib.Dec.{ltb}
+use Rattle.refusal.specs.Refusals.{maximumPathDepthExceeded}
+use Rattle.lent.specs.Lent.{mostIntermediates}
+use Rattle.candidate.specs.declared.Verdict.{Verdict}
+use Rattle.candidate.specs.declared.Verdict.the-variants.{Pass, Anchor, Extend}
+use Rattle.dialogue.specs.Model.{Path, World, Event, note, extension, try, leave}
 
-unfoldable pub weight : (Event → ℕ) → List Event → ℕ
-weight w [] = 0
-weight w (ev ∷ es) = w ev + weight w es
+-- ---- the measure of a machine that takes one event a move
 
--- the same up to the extension that is one too many, where b are allowed
+-- what the events weigh up to the extension that is one too many, where b are allowed
 unfoldable pub paid : (Event → ℕ) → List Event → ℕ → ℕ
 paid w [] b = 0
 paid w (note x ∷ es) b = w (note x) + paid w es b
@@ -16,30 +22,116 @@ paid w (leave ∷ es) b = w leave + paid w es b
 paid w (extension ∷ es) zero = w extension
 paid w (extension ∷ es) (suc b) = w extension + paid w es b
 
--- the weight that counts tries
-unfoldable pub aTry : Event → ℕ
-aTry (note x) = 0
-aTry extension = 0
-aTry leave = 0
-aTry (try k p) = 1
+-- ---- the events in their places
 
--- the weight that counts how often a certificate is looked up at an event, at most, as the code does it. A candidate: the newest certificate, the candidate,
--- and the seven of the path with which it is compared. An extension: the same, and its own checks. An anchor: the newest; for name constraints the seven of
--- the path, either for the anchor's own or for whether they have any, each issuer (6), and what is below each (1 + .. + 6)
-unfoldable pub lookups : Event → ℕ
-lookups (note x) = 9
-lookups extension = 10
-lookups leave = 0
-lookups (try k p) = 35
+-- the path, the number of the candidate, and the event; one that is about no candidate has the number after theirs
+pub data Placed : Type 0 where
+  at : Path → ℕ → Event → Placed
 
--- the weight that counts bytes looked at in the same way, where no slice of bytes that is lent is longer than l, and d keys are distrusted; a comparison of
--- two parts looks at the bytes of both at most. A candidate: two names, and subject and key against each certificate of the path (30 l), or two names and
--- the distrusted keys. An extension: the same, the distrusted keys against its own, and its checks, which go through three of its fields (3 l). An
--- anchor: two names, the distrusted keys, and where there are name constraints the seven lists, and the names of the certificates below each (28 times): 37 l
--- and the keys. Leaving a path is nothing; its weight stands for the end entity's own checks, which come before the first event. What a comparison of a
--- name with an entry looks at, and a question, is not in it
-unfoldable pub looks : ℕ → ℕ → Event → ℕ
-looks l d (note x) = (36 + 2 * d) * l
-looks l d extension = (36 + 2 * d) * l
-looks l d leave = (36 + 2 * d) * l
-looks l d (try k p) = (36 + 2 * d) * l + l
+unfoldable pub eventOf : Placed → Event
+eventOf (at path i ev) = ev
+
+-- `events` once more, each in its place
+unfoldable pub oneAt : (Path → List Placed) → Path → ℕ → Verdict → List Placed
+oneAt deeper path i (Pass e) = at path i (note e) ∷ []
+oneAt deeper path i Anchor = at path i (try i path) ∷ []
+oneAt deeper path i Extend = at path i extension ∷ deeper (i ∷ path)
+
+unfoldable pub eachAt : World → (Path → List Placed) → Path → ℕ → ℕ → List Placed
+eachAt W deeper path zero i = []
+eachAt W deeper path (suc count) i = oneAt deeper path i (W .verdict path i) ++ eachAt W deeper path count (suc i)
+
+unfoldable pub nodeAt : World → (Path → List Placed) → Path → ℕ → List Placed
+nodeAt W deeper path zero = eachAt W deeper path (W .candidates) 0 ++ (at path (W .candidates) leave ∷ [])
+nodeAt W deeper path (suc e) = at path (W .candidates) (note (suc e)) ∷ []
+
+unfoldable pub enterAt : World → ℕ → Path → List Placed
+enterAt W zero path = at path (W .candidates) (note maximumPathDepthExceeded) ∷ []
+enterAt W (suc room) path = nodeAt W (enterAt W room) path (W .check path)
+
+unfoldable pub placed : World → ℕ → List Placed
+placed W end = enterAt W (suc mostIntermediates) (end ∷ [])
+
+-- ---- what they weigh
+
+unfoldable pub weight : (Placed → ℕ) → List Placed → ℕ
+weight w [] = 0
+weight w (p ∷ ps) = w p + weight w ps
+
+-- 1 for each anchor tried
+unfoldable pub aTry : Placed → ℕ
+aTry (at path i (note x)) = 0
+aTry (at path i extension) = 0
+aTry (at path i leave) = 0
+aTry (at path i (try k p)) = 1
+
+-- 0 + 1 + .. + (d - 1)
+unfoldable pub pairs : ℕ → ℕ
+pairs zero = 0
+pairs (suc d) = d + pairs d
+
+-- of three numbers that of an anchor, of an intermediate, of no candidate
+abbrev pub kindOf : ℕ → ℕ → ℕ → ℕ → ℕ → ℕ
+kindOf anchors candidates i x y = cond (ltb i anchors) x (cond (ltb i candidates) y 0)
+
+-- how often a certificate is looked up at most, as the code does it, where the path has d certificates. An anchor: the newest of the path. One that is
+-- tried: for the name constraints all d besides, either for the anchor's own or for whether they have any, then each issuer of the path (d - 1) and what is
+-- below each (1 + .. + (d - 1)). An intermediate: the newest, itself, and the d of the path with which it is compared
+unfoldable pub tryLookups : ℕ → ℕ
+tryLookups d = d + d + pairs d
+
+unfoldable pub issuerLookups : ℕ → ℕ
+issuerLookups d = d + 2
+
+unfoldable pub lookups : ℕ → ℕ → Placed → ℕ
+lookups anchors candidates (at path i (note x)) = kindOf anchors candidates i 1 (issuerLookups (length path))
+lookups anchors candidates (at path i extension) = issuerLookups (length path)
+lookups anchors candidates (at path i leave) = 0
+lookups anchors candidates (at path i (try k p)) = tryLookups (length path)
+
+-- how many bytes are looked at in the same way, in lengths of the longest slice of bytes that is lent; a comparison of two parts looks at the bytes of both
+-- at most. An anchor: two names, and the distrusted keys against its own. One that is tried: its flag and, where there are name constraints, the headers of the
+-- d pairs of lists besides, and the names of the certificates below each (1 + .. + d). An intermediate: two names, and subject and key against those of each certificate of the path.
+-- What a comparison of a name with an entry looks at, and a question, is not in it
+unfoldable pub anchorLooks : ℕ → ℕ
+anchorLooks distrusted = 2 + 2 * distrusted
+
+unfoldable pub tryLooks : ℕ → ℕ → ℕ
+tryLooks distrusted d = anchorLooks distrusted + d + pairs (suc d)
+
+unfoldable pub issuerLooks : ℕ → ℕ
+issuerLooks d = 2 + 4 * d
+
+unfoldable pub looks : ℕ → ℕ → ℕ → Placed → ℕ
+looks distrusted anchors candidates (at path i (note x)) = kindOf anchors candidates i (anchorLooks distrusted) (issuerLooks (length path))
+looks distrusted anchors candidates (at path i extension) = issuerLooks (length path)
+looks distrusted anchors candidates (at path i leave) = 0
+looks distrusted anchors candidates (at path i (try k p)) = tryLooks distrusted (length path)
+
+-- a certificate's own checks: the distrusted keys against its own, and three of its fields gone through
+unfoldable pub checkLooks : ℕ → ℕ
+checkLooks distrusted = 3 + 2 * distrusted
+
+-- ---- the bound
+
+-- the first candidates are anchors, the others intermediates
+pub record Sorted (W : World) (anchors issuers : ℕ) : Type 0 where
+  pub all : W .candidates ≡ anchors + issuers
+  pub tried : (path : Path) (i : ℕ) → W .verdict path i ≡ Anchor → i < anchors
+  pub extended : (path : Path) (i : ℕ) → W .verdict path i ≡ Extend → anchors ≤ i
+
+-- the path that is entered as number k, the first being number 0, has at most so many certificates
+unfoldable pub longest : ℕ → ℕ
+longest k = suc (cond (ltb k mostIntermediates) k mostIntermediates)
+
+-- what `count` paths come to from number k on, where a path of d certificates comes to u d
+unfoldable pub entered : (ℕ → ℕ) → ℕ → ℕ → ℕ
+entered u k zero = 0
+entered u k (suc count) = u (longest k) + entered u (suc k) count
+
+-- what a path of d certificates comes to, of which each anchor is tried and each intermediate looked at
+unfoldable pub levelLookups : ℕ → ℕ → ℕ → ℕ
+levelLookups anchors issuers d = tryLookups d * anchors + issuerLookups d * issuers
+
+unfoldable pub levelLooks : ℕ → ℕ → ℕ → ℕ → ℕ
+levelLooks distrusted anchors issuers d = tryLooks distrusted d * anchors + issuerLooks d * issuers

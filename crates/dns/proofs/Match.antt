@@ -12,14 +12,16 @@ use Rattle.refusal.specs.Refusals.{malformedDnsIdentifier, malformedNameConstra
 use Rattle.der.proofs.Invert.{peel, either}
 use Rattle.dns.specs.declared.Answer.{Answer}
 use Rattle.dns.specs.declared.Answer.the-variants.{Yes, No, Refused}
-use Rattle.dns.specs.Names.{Labels, dot, capital, small, digit, letter, labelByte, every, lastOf, none, lowered, labels, goodLabel, hostName, relative, starred, Same, Starred, StandsFor, Within, Below, InSubtree, AllIn, SomeIn, wantedName, presentedName, entryName}
+use Rattle.labels.specs.Names.{Labels, dot, capital, digit, letter, labelByte, every, lastOf, none, labels, goodLabel, hostName, relative, starred, wantedName, presentedName, entryName}
+use Rattle.dns.specs.Names.{small, lowered, Same, Starred, StandsFor, Within, Below, InSubtree, AllIn, SomeIn}
 use Rattle.dns.specs.Stricter.{Stricter}
 use Rattle.dns.specs.Answers.{Decides}
-use Rattle.dns.specs.Model.{begins, fromDot, sameText, relativeText, validPresented, validWanted, standsFor, inSubtree, meetsSubtree, yesIf, matchWanted, matchPermitted, matchExcluded}
+use Rattle.labels.specs.Model.{begins, fromDot, relativeText, validPresented, validWanted}
+use Rattle.dns.specs.Model.{sameText, standsFor, inSubtree, meetsSubtree, yesIf, matchWanted, matchPermitted, matchExcluded}
 use Rattle.dns.proofs.Laws.{yes-no, yes-refused, no-refused}
-use Rattle.dns.proofs.Labels.{labels-nil, true-false, cut, labels-dot, cut-more}
+use Rattle.labels.proofs.Labels.{labels-nil, true-false, cut, labels-dot, cut-more}
 use Rattle.dns.proofs.Texts.{both, small-keeps, same-labels, labels-same, Dots, one, two, dots}
-use Rattle.dns.proofs.Valid.{wanted-valid, presented-valid, entry-valid, labels-relative, star-dot, star-bad, no-star}
+use Rattle.labels.proofs.Valid.{wanted-valid, presented-valid, entry-valid, labels-relative, star-dot, star-bad, no-star}
 use Rattle.dns.proofs.Subtree.{subtree-nil, subtree-dot, subtree-other, subtree-sound, subtree-complete}
 
 decides : (b : Bool) (P : Type 0) → (b ≡ true → P) → (P → b ≡ true) → Decides (yesIf b) P

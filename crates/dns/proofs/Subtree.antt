@@ -10,9 +10,11 @@ use lib.Dec.{eqb}
 use native.Mathlib.Omega.{arith}
 use borrow.Author.Tests.{eq-eqb, ne-eqb, eqb-true, lt-leb, le-leb}
 use Rattle.der.proofs.Laws.{lt-or-le}
-use Rattle.dns.specs.Names.{Labels, dot, capital, small, lowered, labels, Within, Below, InSubtree}
-use Rattle.dns.specs.Model.{begins, sameText, tail, inSubtree}
-use Rattle.dns.proofs.Labels.{true-false, cut, labels-dot, cut-more, labels-append}
+use Rattle.labels.specs.Names.{Labels, dot, capital, labels}
+use Rattle.dns.specs.Names.{small, lowered, Within, Below, InSubtree}
+use Rattle.labels.specs.Model.{begins}
+use Rattle.dns.specs.Model.{sameText, tail, inSubtree}
+use Rattle.labels.proofs.Labels.{true-false, cut, labels-dot, cut-more, labels-append}
 use Rattle.dns.proofs.Texts.{text, labels-inv, ends-with, small-keeps, lowered-labels, same-small, small-same}
 
 -- ---- the test, case by case

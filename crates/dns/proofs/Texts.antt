@@ -6,9 +6,11 @@ use mathlib.Core.Bool.{Bool, true, false, cond, _&&_}
 use lib.Dec.{eqb, leb}
 use native.Mathlib.Omega.{arith}
 use borrow.Author.Tests.{eq-eqb, ne-eqb, eqb-true, leb-true}
-use Rattle.dns.specs.Names.{Labels, dot, capital, small, lowered, longer, labels, Same}
-use Rattle.dns.specs.Model.{sameText, fromDot}
-use Rattle.dns.proofs.Labels.{true-false, cut, labels-dot, labels-more}
+use Rattle.labels.specs.Names.{Labels, dot, capital, longer, labels}
+use Rattle.dns.specs.Names.{small, lowered, Same}
+use Rattle.labels.specs.Model.{fromDot}
+use Rattle.dns.specs.Model.{sameText}
+use Rattle.labels.proofs.Labels.{true-false, cut, labels-dot, labels-more}
 
 -- ---- the text of labels
 unfoldable pub dotted : Labels → List ℕ

@@ -5,7 +5,8 @@ use mathlib.Core.List.{List, [], _∷_}
 use mathlib.Core.Bool.{true}
 use lib.ListN.{drop}
 use Prim.Native.Nat.{ℕ}
-use Rattle.dns.specs.Names.{Labels, starred, Same}
+use Rattle.labels.specs.Names.{Labels, starred}
+use Rattle.dns.specs.Names.{Same}
 
 pub record Stricter (p e : Labels) : Type 0 where
   pub label : List ℕ

@@ -17,10 +17,12 @@ use Rattle.dns.specs.declared.Answer.{Answer}
 use Rattle.dns.specs.declared.Answer.the-variants.{Yes, No, Refused}
 use Rattle.names.specs.declared.general.Name.{Name}
 use Rattle.names.specs.declared.general.Name.the-variants.{Found, Refused as NoName}
-use Rattle.names.specs.declared.ip.Masked.{Masked}
-use Rattle.names.specs.declared.ip.Masked.the-variants.{Same, Differs, Broken}
-use Rattle.dns.specs.Model.{validPresented, validEntry, inSubtree, meetsSubtree, yesIf, matchPermitted, matchExcluded}
-use Rattle.names.specs.Model.{isKind, ofKind, generalName, neither, maskedByte, onMasked, subnetFrom, matchSubnet}
+use Rattle.ip.specs.declared.Masked.{Masked}
+use Rattle.ip.specs.declared.Masked.the-variants.{Same, Differs, Broken}
+use Rattle.labels.specs.Model.{validPresented, validEntry}
+use Rattle.dns.specs.Model.{inSubtree, meetsSubtree, yesIf, matchPermitted, matchExcluded}
+use Rattle.names.specs.Model.{isKind, ofKind, generalName}
+use Rattle.ip.specs.Model.{neither, maskedByte, onMasked, subnetFrom, matchSubnet}
 use Rattle.entries.specs.declared.Base.{Base}
 use Rattle.entries.specs.declared.Base.the-variants.{Is, Refused as NoBase}
 use Rattle.entries.specs.declared.Seen.{Seen}

@@ -13,7 +13,8 @@ use Rattle.names.specs.declared.general.Name.{Name}
 use Rattle.names.specs.declared.general.Name.the-variants.{Found, Refused as NoName}
 use Rattle.names.specs.General.{dnsName, ipAddress}
 use Rattle.dns.specs.Model.{matchPermitted, matchExcluded}
-use Rattle.names.specs.Model.{generalName, matchSubnet}
+use Rattle.names.specs.Model.{generalName}
+use Rattle.ip.specs.Model.{matchSubnet}
 use Rattle.entries.specs.declared.Base.{Base}
 use Rattle.entries.specs.declared.Base.the-variants.{Is, Refused as NoBase}
 use Rattle.entries.specs.declared.Seen.{Seen}

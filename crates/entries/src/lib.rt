@@ -3,7 +3,6 @@ use der::Got;
 use dns::Answer;
 use names::general;
 use names::general::Name;
-use names::ip;
 ghost use mathlib.Core.Path.{_≡_};
 ghost use Rattle.entries.specs.Tally.{spend};
 ghost use Rattle.entries.specs.Model.{baseAt, compared, settled, judged, entries, closed};

@@ -7,7 +7,7 @@ use borrow.Author.Tests.{eq-eqb, ne-eqb}
 use Rattle.refusal.specs.Refusals.{badDer, trailingCertificateExtensions, trailingExtension, unsupportedCriticalExtension}
 use Rattle.der.specs.declared.Span.{Span}
 use Rattle.der.specs.declared.Got.the-variants.{Content}
-use Rattle.values.specs.declared.small.Truth.the-variants.{Is as Said}
+use Rattle.values.specs.declared.Truth.the-variants.{Is as Said}
 use Rattle.der.specs.Model.{expectAt, onContent}
 use Rattle.values.specs.Model.{readBool}
 use Rattle.extensions.specs.declared.Known.{Known}

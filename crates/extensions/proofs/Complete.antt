@@ -10,8 +10,9 @@ use Rattle.der.specs.declared.Span.{Span}
 use Rattle.der.specs.declared.Got.the-variants.{Content}
 use Rattle.der.specs.Places.{part}
 use Rattle.der.specs.X690.{encoding}
-use Rattle.der.specs.Model.{LIMIT, expectAt, sameList}
-use Rattle.der.proofs.Equal.{same-refl}
+use Rattle.der.specs.Model.{LIMIT, expectAt}
+use Rattle.parts.specs.Model.{sameList}
+use Rattle.parts.proofs.Equal.{same-refl}
 use Rattle.der.proofs.Parts.{part-length}
 use Rattle.der.proofs.Loop.{Going, turn, finish, start}
 use Rattle.extensions.specs.declared.Known.{Known}

@@ -9,10 +9,10 @@ use lib.Dec.{ltb, eqb}
 use native.Mathlib.Omega.{arith}
 use borrow.Author.Tests.{ltb-false, eqb-true, eqb-false}
 use Rattle.der.specs.Places.{part}
-use Rattle.der.specs.Model.{sameList}
+use Rattle.parts.specs.Model.{sameList}
 use Rattle.der.proofs.Laws.{tests}
 use Rattle.der.proofs.Invert.{peel, either}
-use Rattle.der.proofs.Equal.{same-true, same-refl}
+use Rattle.parts.proofs.Equal.{same-true, same-refl}
 use Rattle.der.proofs.Parts.{part-length, part-cons, part-none}
 use Rattle.extensions.specs.Model.{knownKind, kindOf}
 use Rattle.extensions.specs.Rfc5280.{KnownNumber, keyUsage, subjectAltName, basicConstraints, nameConstraints, cRLDistributionPoints, extKeyUsage, idCe}

@@ -11,8 +11,8 @@ use Rattle.der.specs.declared.Read.{Read}
 use Rattle.der.specs.declared.Read.the-variants.{Value, Refused as NoValue}
 use Rattle.der.specs.declared.Got.{Got}
 use Rattle.der.specs.declared.Got.the-variants.{Content, Refused as NoContent}
-use Rattle.values.specs.declared.small.Truth.{Truth}
-use Rattle.values.specs.declared.small.Truth.the-variants.{Is as Said, Refused as NoTruth}
+use Rattle.values.specs.declared.Truth.{Truth}
+use Rattle.values.specs.declared.Truth.the-variants.{Is as Said, Refused as NoTruth}
 use Rattle.der.specs.Model.{readValue, ofTag, expectAt, onContent}
 use Rattle.values.specs.Model.{onlyByte, truthIn, readBool}
 use Rattle.extensions.specs.declared.Known.{Known}

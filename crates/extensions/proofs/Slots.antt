@@ -12,7 +12,7 @@ use Rattle.der.specs.declared.Span.{Span}
 use Rattle.der.specs.X690.{bigEndian, lengthBytes, encoding}
 use Rattle.der.proofs.Laws.{lt-or-le}
 use Rattle.der.proofs.Complete.{bytes-short, bytes-long, big-length}
-use Rattle.der.specs.Model.{sameList}
+use Rattle.parts.specs.Model.{sameList}
 use Rattle.extensions.specs.declared.Slot.{Slot}
 use Rattle.extensions.specs.declared.Known.{Known}
 use Rattle.extensions.specs.Model.{put, setSlot, slotOf, noneKnown}

@@ -6,7 +6,7 @@ use mathlib.Core.Bool.{Bool, true, false}
 use mathlib.Core.Logic.{inr, ⊎-elim}
 use lib.ListN.{length, getD}
 use native.Mathlib.Omega.{arith}
-use Rattle.values.specs.declared.small.Truth.the-variants.{Is as Said}
+use Rattle.values.specs.declared.Truth.the-variants.{Is as Said}
 use Rattle.der.specs.Places.{Bytes, part}
 use Rattle.der.specs.X690.{encoding, truth}
 use Rattle.values.specs.Model.{readBool}

@@ -11,9 +11,10 @@ use Rattle.der.specs.declared.Span.{Span}
 use Rattle.der.specs.declared.Got.the-variants.{Content}
 use Rattle.der.specs.Places.{Bytes, part}
 use Rattle.der.specs.X690.{encoding}
-use Rattle.der.specs.Model.{expectAt, sameList}
+use Rattle.der.specs.Model.{expectAt}
+use Rattle.parts.specs.Model.{sameList}
 use Rattle.der.proofs.Laws.{lt-or-le}
-use Rattle.der.proofs.Equal.{same-true}
+use Rattle.parts.proofs.Equal.{same-true}
 use Rattle.der.proofs.Parts.{part-length, part-split, part-none}
 use Rattle.der.proofs.Loop.{Going, turn, stop, finish, start}
 use Rattle.extensions.specs.declared.Known.{Known}

@@ -8,8 +8,8 @@ use Rattle.refusal.specs.Refusals.{badDer, trailingCertificateTbsCertificate, t
 use Rattle.der.specs.declared.Span.{Span}
 use Rattle.der.specs.declared.Got.{Got}
 use Rattle.der.specs.declared.Got.the-variants.{Content, Refused as NoContent}
-use Rattle.values.specs.declared.small.Truth.{Truth}
-use Rattle.values.specs.declared.small.Truth.the-variants.{Is as Said, Refused as NoTruth}
+use Rattle.values.specs.declared.Truth.{Truth}
+use Rattle.values.specs.declared.Truth.the-variants.{Is as Said, Refused as NoTruth}
 use Rattle.der.specs.Model.{expectAt, onContent}
 use Rattle.values.specs.Model.{readBool}
 use Rattle.der.specs.Loop.{walk}

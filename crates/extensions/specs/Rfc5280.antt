@@ -5,7 +5,7 @@ use mathlib.Core.Path.{_≡_}
 use mathlib.Core.List.{List, [], _∷_, _++_}
 use mathlib.Core.Bool.{Bool, true, false, cond}
 use Rattle.der.specs.X690.{encoding, truth}
-use Rattle.der.specs.Model.{sameList}
+use Rattle.parts.specs.Model.{sameList}
 
 -- ---- X.680, 8.4: the universal tags; X.690, 8.9.1 and 8.14.2: a SEQUENCE and an explicit [n] are constructed
 unfoldable pub octetString : List ℕ → List ℕ

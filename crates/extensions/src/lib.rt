@@ -1,7 +1,7 @@
 // A certificate's extensions: RFC 5280, 4.2. Those that are known are kept by place, each in a slot of its own.
 use der::Got;
 use der::Span;
-use values::small::Truth;
+use values::Truth;
 ghost use mathlib.Core.Path.{_≡_};
 ghost use Rattle.extensions.specs.Model.{knownKind, kindOf, slotOf, setSlot, noneKnown, extensionIn, contentOf, ruled, remembered, moved, taken, gathered, extensionsAt};
 
@@ -198,7 +198,7 @@ fn extension_in(s: &[u8], from: usize, to: usize) -> Parsed
         Got::Content(p) => p,
         Got::Refused(e) => return Parsed::Refused(e),
     };
-    match values::small::read_bool(s, identifier.end, to) {
+    match values::read_bool(s, identifier.end, to) {
         Truth::Is {
             value: critical,
             next,

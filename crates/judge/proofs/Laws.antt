@@ -5,9 +5,9 @@ use mathlib.Core.Bool.{Bool, true, false, cond}
 use mathlib.Core.List.{List, [], _∷_, _++_, map}
 use native.Mathlib.Omega.{arith}
 use lib.Dec.{ltb, eqb}
-use lib.ListN.{length, getD, take, length-map, List·getD-eq-default}
+use lib.ListN.{length, getD, length-map, List·getD-eq-default}
 use denote.Ref.{RefT, now}
-use borrow.Author.Tests.{le-ltb, ltb-true, ltb-false, ne-eqb}
+use borrow.Author.Tests.{le-ltb, ltb-false, ne-eqb}
 use Rattle.refusal.specs.Refusals.{maximumPathDepthExceeded}
 use Rattle.cert.specs.declared.Certificate.{Certificate}
 use Rattle.cert.specs.declared.Reading.{Reading}
@@ -22,21 +22,21 @@ use Rattle.asked.specs.Model.{questionIn, questionOf}
 use Rattle.path.specs.Model.{onReading}
 use Rattle.table.specs.Model.{readingIn, Held}
 use Rattle.table.proofs.Laws.{held-reading}
-use Rattle.lent.specs.Lent.{readingsIn, pre}
+use Rattle.lent.specs.Lent.{readingsIn}
 use Rattle.lent.proofs.Laws.{held-readings}
-use Rattle.dialogue.specs.Model.{World, Outcome, accepted, refused, spent, Tree, done, ask, offer, unless}
+use Rattle.dialogue.specs.Model.{World, Outcome, refused, Tree, done, ask, offer}
 use Rattle.dialogue.specs.Dialogue.{give, follow}
 use Rattle.machine.specs.declared.Numbers.{Numbers}
 use Rattle.machine.specs.declared.State.{State}
 use Rattle.machine.specs.declared.Phase.{Phase}
 use Rattle.machine.specs.declared.Phase.the-variants.{Walk, Ask, Offer, Found, Refused, Spent}
-use Rattle.machine.specs.Machine.{phaseTree, treeOf, keyAt, whatAt, effort, Stands, Ran, Halted, begun, Started}
+use Rattle.machine.specs.Machine.{phaseTree, treeOf, keyAt, whatAt, effort, Halted, Started}
 use Rattle.machine.specs.World.{worldOf, worldIn}
 use Rattle.machine.proofs.Lent.{world-held}
 use Rattle.machine.proofs.Whole.{ran-bound}
-use Rattle.dialogue.proofs.Answers.{follow-more}
 use Rattle.conditions.specs.Request.{Request, Budgets}
 use Rattle.conditions.specs.Model.{nameOf, named, closed, worldFor, endOf, searchOf, decision}
+use Rattle.runs.specs.Runs.{Came}
 use Rattle.judge.specs.declared.Asked.{Asked}
 use Rattle.steps.specs.declared.Step.{Step}
 use Rattle.steps.specs.Model.{phaseOf, numberOf, refusalOf, stateOf, stepOf, nameBy, isFound, shownAs, endedStep}
@@ -62,6 +62,9 @@ module _ (T I : List (List ℕ)) (E : List ℕ) (h : Held T I E) where
   module _ (S K C : List (List ℕ)) (B : List ℕ) (D : List (List ℕ)) (t : ℕ) (w : List ℕ) (m : Bool) (n : ℕ) (q : n ≡ length S) where
     pub started-held : (k sg ex cm : ℕ) (s : State) → Started (worldIn (readingsIn T I E n) I E S K C B D t w m) k sg ex cm s → Started (worldOf I E S K C B D t w m) k sg ex cm s
     started-held k sg ex cm s = on-bytes (λ W. Started W k sg ex cm s) S K C B D t w m n q
+
+    pub came-held : (k sg ex cm : ℕ) (said : List ℕ) (s : State) → Came (worldIn (readingsIn T I E n) I E S K C B D t w m) k sg ex cm said s → Came (worldOf I E S K C B D t w m) k sg ex cm said s
+    came-held k sg ex cm said s = on-bytes (λ W. Came W k sg ex cm said s) S K C B D t w m n q
 
     pub halted-held : (u s : State) (a : ℕ)
         → (u .depth < 7 → (u .phase ≡ Walk → ⊥) → Halted (worldIn (readingsIn T I E n) I E S K C B D t w m) u s (a ∷ []) (give (treeOf (worldIn (readingsIn T I E n) I E S K C B D t w m) u) a) (effort (worldIn (readingsIn T I E n) I E S K C B D t w m) u))
@@ -186,69 +189,20 @@ module _ (R : Request) where
     unread-at e q r a b c h = rw (q, h) record { sees = (refl, refl); stands = refl }
 
 -- ---- a whole run
--- the answers given one after the other
-pub take-more : (l : List ℕ) (i : ℕ) → i < length l → take (i + 1) l ≡ take i l ++ (getD l i 0 ∷ [])
-take-more l i h =
-    let e : i + 1 ≡ suc i = omega arith in
-    ap (λ (j : ℕ). take j l) e ∙ by l i h
-  where
-    by : (l : List ℕ) (i : ℕ) → i < length l → take (suc i) l ≡ take i l ++ (getD l i 0 ∷ [])
-    by [] i h = absurd (omega (arith, h))
-    by (x ∷ l) zero h = refl
-    by (x ∷ l) (suc i) h = ap (λ (m : List ℕ). x ∷ m) (by l i (omega (arith, h)))
-
-pub take-all : (l : List ℕ) (i : ℕ) → length l ≤ i → take i l ≡ l
-take-all [] zero h = refl
-take-all [] (suc i) h = refl
-take-all (x ∷ l) zero h = absurd (omega (arith, h))
-take-all (x ∷ l) (suc i) h = ap (λ (m : List ℕ). x ∷ m) (take-all l i (omega (arith, h)))
-
-abbrev start : Request → Budgets → Phase → State
-start R B phase = begun (endOf R) (B .signatures) (B .extensions) (B .comparisons) phase
-
--- the machine is at s after these answers
-pub record Going (R : Request) (B : Budgets) (said : List ℕ) (s : State) : Type 0 where
-  pub same : treeOf (worldFor R) s ≡ follow (searchOf R B) said
-  pub deep : s .depth < 7
-  pub halts : s .phase ≡ Walk → ⊥
-  pub phase : Phase
-  pub begins : Stands (worldFor R) (start R B phase) (searchOf R B) (suc (endOf R) * suc (B .extensions))
-  pub moves : ℕ
-  pub ran : Ran (worldFor R) (start R B phase) s said moves
-
 module _ (R : Request) (B : Budgets) where
-  pub going : (s : State) (n : ℕ) → n ≡ endOf R → Started (worldFor R) n (B .signatures) (B .extensions) (B .comparisons) s → Going R B [] s
-  unfolding worldOf follow
-  going s n m k =
-      let h : Started (worldFor R) (endOf R) (B .signatures) (B .extensions) (B .comparisons) s = subst (λ (j : ℕ). Started (worldFor R) j (B .signatures) (B .extensions) (B .comparisons) s) m k in
-      record { same = h .same; deep = h .deep; halts = h .halts; phase = h .phase; begins = h .begins; moves = h .moves; ran = h .ran }
-
-  pub goes-on : (said then : List ℕ) (s r : State) (a : ℕ) → then ≡ said ++ (a ∷ []) → Going R B said s
-      → (s .depth < 7 → (s .phase ≡ Walk → ⊥) → Halted (worldFor R) s r (a ∷ []) (give (treeOf (worldFor R) s) a) (effort (worldFor R) s)) → Going R B then r
-  goes-on said then s r a e g h =
-      let k = h (g .deep) (g .halts) in
-      let m = k .ran (start R B (g .phase)) said (g .moves) (g .ran) in
-      subst (λ (l : List ℕ). Going R B l r) (sym e) record {
-        same = k .same ∙ ap (λ (u : Tree). give u a) (g .same) ∙ sym (follow-more (searchOf R B) said a);
-        deep = k .deep;
-        halts = k .halts;
-        phase = g .phase;
-        begins = g .begins;
-        moves = m .0;
-        ran = m .1;
-      }
-
-  pub went : (said all : List ℕ) → said ≡ all → (s : State) (r : Step) (c : Certificate) → readCertificate (R .end) true ≡ Accepted c → Going R B said s
-      → r ≡ shownAs (nameOf (R .end) (R .kind) (R .name)) s (s .phase) → Run R B all r
-  went said all d s r c q g e =
-      subst (λ (l : List ℕ). Run R B l r) d (subst (λ (w : Step). Run R B said w) (sym e) record {
+  pub went : (said : List ℕ) (s : State) (r : Step) (c : Certificate) → readCertificate (R .end) true ≡ Accepted c → (n : ℕ) → n ≡ endOf R
+      → Came (worldFor R) n (B .signatures) (B .extensions) (B .comparisons) said s → r ≡ shownAs (nameOf (R .end) (R .kind) (R .name)) s (s .phase) → Run R B said r
+  unfolding worldOf
+  went said s r c q n m k e =
+      let g : Came (worldFor R) (endOf R) (B .signatures) (B .extensions) (B .comparisons) said s = subst (λ (j : ℕ). Came (worldFor R) j (B .signatures) (B .extensions) (B .comparisons) said s) m k in
+      subst (λ (w : Step). Run R B said w) (sym e) record {
         at = subst (λ (v : Tree). At R v (shownAs (nameOf (R .end) (R .kind) (R .name)) s (s .phase)))
             (ap (closed (naming R)) (g .same) ∙ closed-follow (naming R) (searchOf R B) said ∙ ap (λ (v : Tree). follow v said) (read-decision R B c q))
             (shown-at R s (g .deep) (g .halts));
         moves = g .moves;
         made = ran (g .ran);
         few = omega (arith, g .begins .most, ran-bound (worldFor R) (g .ran));
-      })
+      }
 
   pub not-read : (said : List ℕ) (e : ℕ) → readCertificate (R .end) true ≡ NoCertificate e → (r : Step) (a b c : ℕ) → r ≡ endedStep e a b c → Run R B said r
   unfolding decision onReading

@@ -5,7 +5,7 @@ use mathlib.Core.Path.{_≡_}
 use mathlib.Core.Bool.{true, false}
 use mathlib.Core.List.{List}
 use Rattle.refusal.specs.Refusals.{isFatal}
-use Rattle.constraints.specs.Rfc5280Names.{Others}
+use Rattle.subtrees.specs.Rfc5280Names.{Others}
 use Rattle.lent.specs.Lent.{pre}
 use Rattle.dialogue.specs.Model.{Path}
 use Rattle.dialogue.specs.Dialogue.{Turn, talk, asked, Oracle, Veto, Agrees}

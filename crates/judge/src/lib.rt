@@ -170,7 +170,7 @@ pub extern "C" fn pathjudge_judge<'a>(
     let count = issuers.len();
     match table::reading(table, count, end) {
         Reading::Accepted(_) => {
-            let mut s = search::start(
+            let s = runs::run(
                 table,
                 issuers,
                 end,
@@ -185,26 +185,8 @@ pub extern "C" fn pathjudge_judge<'a>(
                 signatures,
                 extensions,
                 comparisons,
+                answers,
             );
-            let mut i: usize = 0;
-            while i < answers.len() {
-                s = search::answer(
-                    table,
-                    issuers,
-                    end,
-                    subjects,
-                    keys,
-                    constraints,
-                    bound,
-                    distrusted,
-                    time,
-                    purpose,
-                    demanded != 0,
-                    s,
-                    answers[i],
-                );
-                i += 1;
-            }
             steps::shown(table, count, end, kind, name, s)
         }
         Reading::Refused(e) => steps::ended(e, signatures, extensions, comparisons),

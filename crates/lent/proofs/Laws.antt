@@ -8,10 +8,10 @@ use lib.Seq.{drop-cons}
 use native.Mathlib.Omega.{arith}
 use native.Mathlib.Numerals.{add-one}
 use lib.Dec.{ltb}
-use borrow.Author.Tests.{ltb-true, ltb-false, lt-ltb, le-ltb}
+use borrow.Author.Tests.{ltb-true, ltb-false, lt-ltb, le-ltb, lt-leb}
 use denote.Ref.{RefT, now}
-use Rattle.der.specs.Model.{sameParts}
-use Rattle.table.specs.Model.{Held}
+use Rattle.parts.specs.Model.{sameParts}
+use Rattle.table.specs.Model.{readingIn, Held}
 use Rattle.table.proofs.Laws.{behind, held-reading}
 use Rattle.lent.specs.Lent.{certificateOf, readingsOf, rowAt, readingsIn, lower, pre, someOf, listed}
 
@@ -55,6 +55,15 @@ module _ (table issuers : List (List ℕ)) (end : List ℕ) (anchors n : ℕ) wh
   held-readings-at : Held table issuers end → readingsIn table issuers end anchors n ≡ readingsOf issuers end anchors n
   unfolding readingsIn
   held-readings-at h = rw row-certificate at (held-reading table issuers end h (rowAt anchors (length issuers) n) row-inside)
+
+-- where there is a row for each certificate, what is known is in the table alone, whatever the certificates are
+pub rows-alone : (table issuers others : List (List ℕ)) (end other : List ℕ) (anchors n : ℕ) → length issuers ≡ length others → length issuers < length table
+    → readingsIn table issuers end anchors n ≡ readingsIn table others other anchors n
+unfolding readingsIn readingIn
+rows-alone table issuers others end other anchors n same all =
+    let i = rowAt anchors (length issuers) n in
+    let few : i < length table = omega (arith, all, row-inside table issuers end anchors n) in
+    rw (← same) (rw (lt-leb (length table) i few) refl)
 
 -- a table that is held says what is read
 pub held-readings : (table issuers : List (List ℕ)) (end : List ℕ) (anchors : ℕ) → Held table issuers end → readingsIn table issuers end anchors ≡ readingsOf issuers end anchors

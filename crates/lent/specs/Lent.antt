@@ -4,7 +4,7 @@ use mathlib.Core.List.{List, [], _∷_}
 use mathlib.Core.Bool.{Bool, true, false, cond}
 use lib.ListN.{length, getD}
 use lib.Dec.{ltb}
-use Rattle.der.specs.Model.{sameParts}
+use Rattle.parts.specs.Model.{sameParts}
 use Rattle.cert.specs.declared.Reading.{Reading}
 use Rattle.cert.specs.Model.{readCertificate}
 use Rattle.table.specs.Model.{readingIn}

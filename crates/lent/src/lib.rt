@@ -1,11 +1,11 @@
 // What a request lends: certificates, anchors and distrusted keys by number, and paths of such numbers.
 // The candidates have one numbering: the anchors, then the intermediates; every other number is the end entity's.
 use cert::Reading;
-use table::Outlined;
+use rows::Outlined;
 ghost use mathlib.Core.Path.{_≡_};
 ghost use mathlib.Core.List.{map};
 ghost use lib.ListN.{getD};
-ghost use Rattle.table.specs.Model.{outlined};
+ghost use Rattle.rows.specs.Model.{outlined};
 ghost use Rattle.lent.specs.Lent.{certificateOf, rowAt, readingsIn, listed};
 
 // As many intermediates may stand between the end entity and the anchor.
@@ -92,7 +92,7 @@ pub fn is_distrusted(distrusted: &[&[u8]], s: &[u8], from: usize, to: usize) -> 
     let mut i: usize = 0;
     while i < distrusted.len() {
         let t = distrusted[i];
-        if der::same(s, from, to, t, 0, t.len()) {
+        if parts::same(s, from, to, t, 0, t.len()) {
             return true;
         }
         i += 1;

@@ -9,11 +9,12 @@ use native.Mathlib.Omega.{arith}
 use Rattle.refusal.specs.Refusals.{badDer, trailingSignedData, unsupportedCertVersion}
 use Rattle.der.specs.declared.Span.{Span}
 use Rattle.der.specs.declared.Got.the-variants.{Content}
-use Rattle.der.specs.Model.{onContent, sameParts}
-use Rattle.values.specs.Model.{bitsAt}
+use Rattle.der.specs.Model.{onContent}
+use Rattle.parts.specs.Model.{sameParts}
+use Rattle.bits.specs.Model.{bitsAt}
 use Rattle.extensions.specs.Model.{span}
-use Rattle.cert.specs.Model.{versionAt}
-use Rattle.cert.proofs.Inversion.{version-inv}
+use Rattle.envelope.specs.Model.{versionAt}
+use Rattle.envelope.proofs.Inversion.{version-inv}
 use Rattle.looks.specs.Der.{valueLooks, sameLooks}
 use Rattle.looks.specs.Values.{bitsLooks}
 use Rattle.looks.specs.Certificates.{partsLooks, openedLooks, versionLooks, begunLooks, fieldsLooks, readLooks, keyLooks, fillLooks, lentBytes}

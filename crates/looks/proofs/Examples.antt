@@ -1,19 +1,22 @@
 -- How often bytes are looked at, by computation: of two refused inputs, and of a small certificate. Assumes nothing.
-use Prim.Native.Nat.{ℕ}
+use Prim.Native.Nat.{ℕ, _*_, _/_}
 use mathlib.Core.Path.{_≡_, refl}
 use mathlib.Core.List.{List, [], _∷_}
 use mathlib.Core.Bool.{true}
 use Rattle.der.specs.Places.{part}
 use Rattle.der.specs.Loop.{run, walk}
-use Rattle.der.specs.Model.{highTag, numberAt, least, longForm, byFirst, readLength, withLength, readLimited, readValue, ofTag, expectAt, onContent, sameList, sameParts}
+use Rattle.der.specs.Model.{highTag, numberAt, least, longForm, byFirst, readLength, withLength, readLimited, readValue, ofTag, expectAt, onContent}
+use Rattle.parts.specs.Model.{sameList, sameParts}
 use Rattle.looks.specs.Der.{longLooks, firstLooks, lengthLooks, valueLooks, pairLooks, sameLooks}
-use Rattle.values.specs.Model.{onlyByte, truthIn, readBool, positiveIn, nonnegative, smallIn, readSmall, wholeOctets, bitsAt}
+use Rattle.values.specs.Model.{onlyByte, truthIn, readBool, positiveIn, nonnegative, smallIn, readSmall}
+use Rattle.bits.specs.Model.{wholeOctets, bitsAt}
 use Rattle.looks.specs.Values.{byteLooks, boolLooks, positiveLooks, nonnegativeLooks, digitLooks, smallLooks, bitsLooks}
 use Rattle.cert.specs.declared.Reading.the-variants.{Accepted}
 use Rattle.extensions.specs.Model.{span, knownKind, kindOf, slotOf, put, setSlot, noneKnown, onTruth, extensionIn, contentOf, passedOver, remembered, onParsed, onKept, taken, goOn, allKept, gathered, extensionsAt}
-use Rattle.cert.specs.Model.{partsIn, onParts, opened, isVersion, versionAt, begun, fieldsAt, onBegun, onFound, readCertificate}
+use Rattle.envelope.specs.Model.{partsIn, onParts, opened, isVersion, versionAt, begun, onBegun}
+use Rattle.cert.specs.Model.{fieldsAt, onFound, readCertificate}
 use Rattle.looks.specs.Extensions.{kindLooks, extensionLooks, contentLooks, rememberedLooks, takenLooks, gatheredLooks, extensionsLooks}
-use Rattle.looks.specs.Certificates.{partsLooks, openedLooks, versionLooks, begunLooks, fieldsLooks, readLooks}
+use Rattle.looks.specs.Certificates.{partsLooks, openedLooks, versionLooks, begunLooks, fieldsLooks, readLooks, keyLooks, fillLooks, lentBytes}
 
 -- a SEQUENCE that holds an empty one and nothing more
 abbrev pub nearlyEmpty : List ℕ
@@ -59,3 +62,26 @@ smallExtension = 48 ∷ 4 ∷ 6 ∷ 0 ∷ 4 ∷ 0 ∷ []
 pub extension-looks : takenLooks smallExtension 0 6 noneKnown true (λ at known. 0) ≡ 7
 unfolding takenLooks extensionLooks rememberedLooks kindLooks contentLooks boolLooks valueLooks lengthLooks firstLooks highTag byFirst readLength withLength readLimited readValue ofTag expectAt onContent readBool onTruth kindOf passedOver onKept
 extension-looks = refl
+
+-- ---- the bounds are reached
+-- 14 bytes, the signed part of which is a version and nothing more: each is looked at once, and the version's number twice more. Of 7 looks for 6 bytes that
+-- is all: 16 is 7 * 14 / 6 in whole numbers
+abbrev pub versionOnly : List ℕ
+versionOnly = 48 ∷ 12 ∷ 48 ∷ 5 ∷ 160 ∷ 3 ∷ 2 ∷ 1 ∷ 2 ∷ 48 ∷ 0 ∷ 3 ∷ 1 ∷ 0 ∷ []
+
+pub all-looks : (readLooks versionOnly true ≡ 16) × (fillLooks [] versionOnly ≡ 7 * lentBytes [] versionOnly / 6)
+unfolding readLooks fillLooks lentBytes openedLooks partsLooks versionLooks begunLooks fieldsLooks bitsLooks smallLooks digitLooks nonnegativeLooks positiveLooks byteLooks valueLooks lengthLooks firstLooks longLooks versionAt isVersion run walk part highTag byFirst readLength withLength readLimited readValue ofTag expectAt onContent positiveIn nonnegative smallIn readSmall wholeOctets bitsAt
+all-looks = (refl, refl)
+
+-- a key's parts, of which every byte is looked at once
+abbrev pub shortKey : List ℕ
+shortKey = 48 ∷ 0 ∷ 3 ∷ 1 ∷ 0 ∷ []
+
+pub all-key-looks : keyLooks shortKey 0 5 ≡ 5
+unfolding keyLooks bitsLooks byteLooks valueLooks lengthLooks firstLooks longLooks highTag byFirst readLength withLength readLimited readValue ofTag expectAt onContent wholeOctets bitsAt
+all-key-looks = refl
+
+-- equal parts, of which every byte is looked at once
+pub all-same-looks : sameLooks shortKey 0 5 shortKey 0 5 ≡ 10
+unfolding sameLooks pairLooks part
+all-same-looks = refl

@@ -10,8 +10,8 @@ use borrow.Author.Tests.{eqb-true}
 use Rattle.refusal.specs.Refusals.{badDer, trailingCertificateExtensions, trailingExtension}
 use Rattle.der.specs.declared.Span.{Span}
 use Rattle.der.specs.Model.{expectAt, onContent}
-use Rattle.values.specs.declared.small.Truth.{Truth}
-use Rattle.values.specs.declared.small.Truth.the-variants.{Is as Said, Refused as NoTruth}
+use Rattle.values.specs.declared.Truth.{Truth}
+use Rattle.values.specs.declared.Truth.the-variants.{Is as Said, Refused as NoTruth}
 use Rattle.values.specs.Model.{readBool}
 use Rattle.extensions.specs.declared.Known.{Known}
 use Rattle.extensions.specs.declared.Kept.{Kept}

@@ -9,15 +9,17 @@ use native.Mathlib.Omega.{arith}
 use Rattle.der.specs.declared.Span.{Span}
 use Rattle.der.specs.declared.Got.{Got}
 use Rattle.der.specs.declared.Got.the-variants.{Content, Refused as NoContent}
-use Rattle.der.specs.Model.{onContent, sameParts}
+use Rattle.der.specs.Model.{onContent}
+use Rattle.parts.specs.Model.{sameParts}
 use Rattle.der.specs.Loop.{walk}
-use Rattle.values.specs.declared.small.Truth.{Truth}
-use Rattle.values.specs.declared.small.Truth.the-variants.{Is as Said, Refused as NoTruth}
+use Rattle.values.specs.declared.Truth.{Truth}
+use Rattle.values.specs.declared.Truth.the-variants.{Is as Said, Refused as NoTruth}
 use Rattle.extensions.specs.declared.Known.{Known}
 use Rattle.extensions.specs.declared.Kept.{Kept}
 use Rattle.extensions.specs.declared.Kept.the-variants.{All, Refused as NotKept}
 use Rattle.extensions.specs.Model.{Move, Next, Stop, kindOf, slotOf, noneKnown, onTruth, extensionIn, passedOver, remembered, onParsed, onKept, taken}
-use Rattle.cert.specs.Model.{partsIn, onParts, opened, begun, onBegun, fieldsAt, onFound}
+use Rattle.envelope.specs.Model.{partsIn, onParts, opened, begun, onBegun}
+use Rattle.cert.specs.Model.{fieldsAt, onFound}
 use Rattle.looks.specs.Der.{nothing}
 use Rattle.looks.specs.Extensions.{extensionLooks, rememberedLooks, takenLooks, gatheredLooks, extensionsLooks}
 use Rattle.looks.specs.Certificates.{partsLooks, openedLooks, begunLooks, fieldsLooks, readLooks}

@@ -16,8 +16,9 @@ use Rattle.looks.specs.Der.{nothing, valueLooks}
 use Rattle.der.proofs.Laws.{lt-or-le}
 use Rattle.der.proofs.Invert.{peel, either}
 use Rattle.looks.proofs.Der.{at-most, value-few, expect-cost, expect-then, content-then}
-use Rattle.values.specs.declared.small.Truth.the-variants.{Is as Said, Refused as NoTruth}
-use Rattle.values.specs.Model.{onlyByte, truthIn, readBool, positiveIn, nonnegative, wholeOctets, bitsAt}
+use Rattle.values.specs.declared.Truth.the-variants.{Is as Said, Refused as NoTruth}
+use Rattle.values.specs.Model.{onlyByte, truthIn, readBool, positiveIn, nonnegative}
+use Rattle.bits.specs.Model.{wholeOctets, bitsAt}
 use Rattle.looks.specs.Values.{byteLooks, boolLooks, positiveLooks, nonnegativeLooks, digitLooks, smallLooks, bitsLooks}
 use Rattle.extensions.proofs.Inversion.{on-content, not-content, chosen}
 

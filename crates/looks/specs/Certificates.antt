@@ -1,4 +1,4 @@
--- How many elements of a slice are read for a certificate: the tests of `crates/cert/specs/Model.antt` in the same order, and 1 for each `s[i]` that the code beside it comes to.
+-- How many elements of a slice are read for a certificate: the tests of `Model.antt` in `crates/envelope/specs` and `crates/cert/specs` in the same order, and 1 for each `s[i]` that the code beside it comes to.
 -- k is what is looked at afterwards.
 use Prim.Native.Nat.{ℕ, _+_}
 use mathlib.Core.List.{List, [], _∷_}
@@ -7,10 +7,11 @@ use lib.ListN.{length}
 use lib.Dec.{eqb}
 use Rattle.refusal.specs.Refusals.{badDer, trailingSignedData, unsupportedCertVersion}
 use Rattle.der.specs.declared.Span.{Span}
-use Rattle.der.specs.Model.{expectAt, onContent, sameParts}
-use Rattle.values.specs.Model.{bitsAt}
+use Rattle.der.specs.Model.{expectAt, onContent}
+use Rattle.parts.specs.Model.{sameParts}
+use Rattle.bits.specs.Model.{bitsAt}
 use Rattle.extensions.specs.Model.{span}
-use Rattle.cert.specs.Model.{versionAt}
+use Rattle.envelope.specs.Model.{versionAt}
 use Rattle.looks.specs.Der.{nothing, valueLooks, sameLooks}
 use Rattle.looks.specs.Values.{smallLooks, bitsLooks}
 use Rattle.looks.specs.Extensions.{extensionsLooks}

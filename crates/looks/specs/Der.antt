@@ -1,4 +1,4 @@
--- How many elements of a slice the reader reads: the tests of `crates/der/specs/Model.antt` in the same order, and 1 for each `s[i]` that the code beside it comes to.
+-- How many elements of a slice the reader reads: the tests of `Model.antt` in `crates/der/specs` and `crates/parts/specs` in the same order, and 1 for each `s[i]` that the code beside it comes to.
 use Prim.Native.Nat.{ℕ, _+_, _-_}
 use mathlib.Core.List.{List, [], _∷_}
 use mathlib.Core.Bool.{cond}

@@ -1,4 +1,4 @@
--- How many elements of a slice are read for a value: the tests of `crates/values/specs/Model.antt` in the same order, and 1 for each `s[i]` that the code beside it comes to.
+-- How many elements of a slice are read for a value: the tests of `Model.antt` in `crates/values/specs` and `crates/bits/specs` in the same order, and 1 for each `s[i]` that the code beside it comes to.
 use Prim.Native.Nat.{ℕ, _+_, _-_}
 use mathlib.Core.List.{List}
 use mathlib.Core.Bool.{cond}

@@ -15,15 +15,19 @@ use Rattle.lent.specs.Lent.{certificateOf, readingsOf, rowAt, readingsIn, lower
 use Rattle.cert.specs.declared.Reading.{Reading}
 use Rattle.cert.specs.declared.Reading.the-variants.{Accepted, Refused as NoCertificate}
 use Rattle.cert.specs.Model.{readCertificate}
-use Rattle.table.specs.Model.{readingIn, outlined, Held}
+use Rattle.rows.specs.Model.{outlined}
+use Rattle.table.specs.Model.{readingIn, Held}
 use Rattle.asked.specs.Model.{replyIn}
-use Rattle.path.specs.Model.{checkIn, verdictIn}
+use Rattle.path.specs.Model.{checkIn}
+use Rattle.candidate.specs.Model.{verdictIn}
 use Rattle.lent.proofs.Laws.{held-readings}
 use Rattle.entries.specs.declared.Spent.{Spent}
 use Rattle.entries.specs.Tally.{Tally, clean, after, spend}
 use Rattle.entries.proofs.Spending.{enough, lacking}
-use Rattle.constraints.specs.Paths.{Noted, noted, lent, rowOf, certAt, certsAt, lower as numbers-below}
-use Rattle.constraints.specs.Model.{onRead, ownIn, own, anchoredIn, issuersIn, issuers as those-of, pathConstraintsIn, pathConstraints}
+use Rattle.subtrees.specs.Noted.{Noted, noted, lent}
+use Rattle.constraints.specs.Paths.{rowOf, certAt, certsAt, lower as numbers-below}
+use Rattle.subtrees.specs.Model.{onRead}
+use Rattle.constraints.specs.Model.{ownIn, own, anchoredIn, issuersIn, issuers as those-of, pathConstraintsIn, pathConstraints}
 use Rattle.dialogue.specs.Model.{Path, World, signatures}
 use Rattle.machine.specs.World.{meaningOf, loweredOf, isBound, namesOf, constrainedAs, notedOf, namesIn, worldOf, worldIn, Judges}
 use Rattle.machine.proofs.Levels.{pre-push}

@@ -7,7 +7,7 @@ use native.Mathlib.Numerals.{add-one}
 use lib.ListN.{length, getD, set}
 use lib.Seq.{getD-set-same, getD-set-other}
 use Rattle.refusal.specs.Refusals.{maximumPathDepthExceeded}
-use Rattle.path.specs.declared.candidate.Verdict.{Verdict}
+use Rattle.candidate.specs.declared.Verdict.{Verdict}
 use Rattle.dialogue.specs.Model.{Path, World, Event, note, leave, one, each, node, enter, events}
 use Rattle.lent.specs.Lent.{mostIntermediates, lower, pre}
 use Rattle.machine.specs.Levels.{under, remaining}

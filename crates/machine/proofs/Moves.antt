@@ -11,8 +11,8 @@ use borrow.Author.Tests.{lt-ltb, le-ltb, ltb-true}
 use Rattle.refusal.specs.Refusals.{maximumPathDepthExceeded, maximumSignatureChecksExceeded, maximumPathBuildCallsExceeded, maximumNameConstraintComparisonsExceeded}
 use Rattle.refusal.specs.Model.{worseOf}
 use Rattle.lent.specs.Lent.{mostIntermediates, lower, pre}
-use Rattle.path.specs.declared.candidate.Verdict.{Verdict}
-use Rattle.path.specs.declared.candidate.Verdict.the-variants.{Pass, Anchor, Extend}
+use Rattle.candidate.specs.declared.Verdict.{Verdict}
+use Rattle.candidate.specs.declared.Verdict.the-variants.{Pass, Anchor, Extend}
 use Rattle.machine.specs.declared.State.{State}
 use Rattle.machine.specs.declared.Phase.{Phase}
 use Rattle.machine.specs.declared.Phase.the-variants.{Walk, Ask, Offer, Found, Refused, Spent}

@@ -20,12 +20,14 @@ use Rattle.cert.specs.declared.Reading.{Reading}
 use Rattle.cert.specs.declared.Reading.the-variants.{Accepted, Refused as NotRead}
 use Rattle.dns.specs.declared.Answer.{Answer}
 use Rattle.dns.specs.declared.Answer.the-variants.{Yes, No, Refused as NoAnswer}
-use Rattle.names.specs.declared.ip.Masked.{Masked}
-use Rattle.names.specs.declared.ip.Masked.the-variants.{Same, Differs, Broken}
+use Rattle.ip.specs.declared.Masked.{Masked}
+use Rattle.ip.specs.declared.Masked.the-variants.{Same, Differs, Broken}
 use Rattle.names.specs.declared.general.Name.{Name}
 use Rattle.names.specs.declared.general.Name.the-variants.{Found, Refused as NoName}
-use Rattle.dns.specs.Model.{validPresented, validEntry, inSubtree, meetsSubtree, yesIf, matchPermitted, matchExcluded}
-use Rattle.names.specs.Model.{neither, maskedByte, onMasked, subnetFrom, matchSubnet, isKind, ofKind, generalName}
+use Rattle.labels.specs.Model.{validPresented, validEntry}
+use Rattle.dns.specs.Model.{inSubtree, meetsSubtree, yesIf, matchPermitted, matchExcluded}
+use Rattle.ip.specs.Model.{neither, maskedByte, onMasked, subnetFrom, matchSubnet}
+use Rattle.names.specs.Model.{isKind, ofKind, generalName}
 use Rattle.entries.specs.declared.Base.{Base}
 use Rattle.entries.specs.declared.Base.the-variants.{Is, Refused as NoBase}
 use Rattle.entries.specs.declared.Seen.{Seen}
@@ -33,13 +35,14 @@ use Rattle.entries.specs.declared.Step.{Step}
 use Rattle.entries.specs.declared.Step.the-variants.{Next, Stop}
 use Rattle.entries.specs.Tally.{Tally, tally, clean, after}
 use Rattle.entries.specs.Model.{onName, baseAt, compared, settled, onBase, judged, unseen, closed, ended, goOn, entries}
-use Rattle.constraints.specs.declared.Subtrees.{Subtrees}
-use Rattle.constraints.specs.declared.Lists.{Lists}
-use Rattle.constraints.specs.declared.Lists.the-variants.{Are, Refused as NoLists}
-use Rattle.constraints.specs.Paths.{Noted}
-use Rattle.constraints.specs.Model.{listAt, subtreesAt, name, nextName, alternatives, onRead, certificateAs, belowIn, onLists, constraintsIn, ownIn, anchoredIn, issuersIn, pathConstraintsIn}
+use Rattle.subtrees.specs.declared.Subtrees.{Subtrees}
+use Rattle.subtrees.specs.declared.Lists.{Lists}
+use Rattle.subtrees.specs.declared.Lists.the-variants.{Are, Refused as NoLists}
+use Rattle.subtrees.specs.Noted.{Noted}
+use Rattle.subtrees.specs.Model.{listAt, subtreesAt, name, nextName, alternatives, onRead, certificateAs}
+use Rattle.constraints.specs.Model.{belowIn, onLists, constraintsIn, ownIn, anchoredIn, issuersIn, pathConstraintsIn}
 use Rattle.dialogue.specs.Model.{Path}
-use Rattle.table.specs.Model.{outlined}
+use Rattle.rows.specs.Model.{outlined}
 use Rattle.lent.specs.Lent.{someOf}
 use Rattle.machine.specs.World.{isBound, constrainedAs, namesIn}
 

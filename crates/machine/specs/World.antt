@@ -8,14 +8,15 @@ use lib.Dec.{ltb, eqb}
 use lib.ListN.{length, getD}
 use Rattle.refusal.specs.Refusals.{badDer, invalidSignatureForPublicKey, unsupportedSignatureAlgorithm, unsupportedSignatureAlgorithmForPublicKey}
 use Rattle.cert.specs.declared.Reading.{Reading}
-use Rattle.table.specs.declared.Outlined.{Outlined}
-use Rattle.table.specs.declared.Outlined.the-variants.{Is, Refused}
-use Rattle.table.specs.Model.{outlined}
+use Rattle.rows.specs.declared.Outlined.{Outlined}
+use Rattle.rows.specs.declared.Outlined.the-variants.{Is, Refused}
+use Rattle.rows.specs.Model.{outlined}
 use Rattle.lent.specs.Lent.{certificateOf, someOf}
 use Rattle.asked.specs.Model.{replyIn, replyOf}
-use Rattle.path.specs.Model.{checkIn, checkOn, verdictIn, verdictOn}
+use Rattle.path.specs.Model.{checkIn, checkOn}
+use Rattle.candidate.specs.Model.{verdictIn, verdictOn}
 use Rattle.entries.specs.Tally.{Tally, clean}
-use Rattle.constraints.specs.Paths.{Noted, noted}
+use Rattle.subtrees.specs.Noted.{Noted, noted}
 use Rattle.constraints.specs.Model.{pathConstraintsIn, pathConstraints}
 use Rattle.dialogue.specs.Model.{Path, World, signatures}
 

@@ -17,7 +17,7 @@ use Rattle.der.specs.Places.{part, Bytes}
 use Rattle.der.specs.X690.{encoding}
 use Rattle.der.specs.Loop.{run, walk}
 use Rattle.der.proofs.Invert.{peel, either}
-use Rattle.der.proofs.Equal.{same-yes, same-equal}
+use Rattle.parts.proofs.Equal.{same-yes, same-equal}
 use Rattle.der.proofs.Parts.{part-length, part-none}
 use Rattle.dns.specs.declared.Answer.{Answer}
 use Rattle.dns.specs.declared.Answer.the-variants.{Yes, No, Refused as RefusedFor}
@@ -26,16 +26,18 @@ use Rattle.names.specs.declared.general.Name.the-variants.{Found as Is, 
 use Rattle.names.specs.declared.general.Tried.the-variants.{Good as Hit, Next as On}
 use Rattle.names.specs.declared.general.Verdict.{Verdict}
 use Rattle.names.specs.declared.general.Verdict.the-variants.{Good, Refused}
-use Rattle.dns.specs.Names.{labels, relative, wantedName, presentedName, StandsFor}
+use Rattle.labels.specs.Names.{labels, relative, wantedName, presentedName}
+use Rattle.dns.specs.Names.{StandsFor}
 use Rattle.names.specs.General.{General, Named, encoded, Each, Broken, ForDns, ForIp, Reached, Passed, BrokenOff}
 use Rattle.dns.specs.Model.{matchWanted}
-use Rattle.names.specs.Model.{isKind, ofKind, generalName, isYes, neither, sameAddress, fits, isWanted, onFound, tryName, onTried, goodFor, goodForDns, goodForIp}
-use Rattle.dns.proofs.Labels.{true-false}
+use Rattle.names.specs.Model.{isKind, ofKind, generalName, isYes, fits, isWanted, onFound, tryName, onTried, goodFor, goodForDns, goodForIp}
+use Rattle.ip.specs.Model.{neither, sameAddress}
+use Rattle.labels.proofs.Labels.{true-false}
 use Rattle.names.proofs.Rows.{ReadAt, read-name, named-at}
-use Rattle.dns.proofs.Valid.{wanted-valid}
+use Rattle.labels.proofs.Valid.{wanted-valid}
 use Rattle.dns.proofs.Match.{wanted-decides, wanted-refused}
 use Rattle.dns.proofs.Laws.{yes-no, yes-refused}
-use Rattle.names.proofs.Laws.{neither-false, either-size}
+use Rattle.ip.proofs.Laws.{neither-false, either-size}
 
 -- what the rest of the names comes to: one that fits, none to the end, or one that cannot be read
 data Walked (fit : General → Bool) (bytes : List ℕ) (r : Verdict) : Type 0 where

@@ -7,7 +7,8 @@ use mathlib.Core.Logic.{_⊎_}
 use lib.ListN.{length}
 use lib.Dec.{eqb}
 use Rattle.der.specs.X690.{encoding}
-use Rattle.dns.specs.Names.{labels, relative, presentedName, StandsFor}
+use Rattle.labels.specs.Names.{labels, relative, presentedName}
+use Rattle.dns.specs.Names.{StandsFor}
 
 abbrev pub dnsName : ℕ
 dnsName = 130

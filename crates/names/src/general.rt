@@ -1,5 +1,4 @@
 // General names, and whether one of them is the name that is looked for.
-use crate::ip;
 use der::Read;
 use dns::Answer;
 ghost use mathlib.Core.Path.{_≡_};
@@ -141,7 +140,7 @@ fn good_for(s: &[u8], from: usize, to: usize, sought: u8, wanted: &[u8]) -> Verd
 pub fn good_for_dns(s: &[u8], from: usize, to: usize, wanted: &[u8]) -> Verdict
     ensures { λ r. ⌜ r ≡ goodForDns (now (s .entry)) from to (now (wanted .entry)) ⌝ }
 {
-    if dns::valid_wanted(wanted) {
+    if labels::valid_wanted(wanted) {
         good_for(s, from, to, DNS, wanted)
     } else {
         Verdict::Refused(refusal::MALFORMED_DNS_IDENTIFIER)

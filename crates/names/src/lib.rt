@@ -1,3 +1,2 @@
-// Names that a certificate presents: general names, and addresses in subnets.
+// Names that a certificate presents.
 pub mod general;
-pub mod ip;

@@ -4,7 +4,6 @@ use dns::Answer;
 use names::general;
 use names::general::Name;
 use names::general::Verdict;
-use names::ip;
 
 fn put(text: &[u8]) {
     io::write_all(1, text);
@@ -63,11 +62,11 @@ fn name(n: Name) {
 // Question 0: is it a name, in each role.
 fn valid(h: &[u8]) {
     put(b"presented");
-    truth(dns::valid_presented(h));
+    truth(labels::valid_presented(h));
     put(b"; wanted");
-    truth(dns::valid_wanted(h));
+    truth(labels::valid_wanted(h));
     put(b"; entry");
-    truth(dns::valid_entry(h));
+    truth(labels::valid_entry(h));
 }
 
 // Question 2: a presented name and an entry.

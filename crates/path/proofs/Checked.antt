@@ -8,9 +8,9 @@ use lib.ListN.{length}
 use native.Mathlib.Omega.{arith}
 use borrow.Author.Tests.{ne-eqb}
 use Rattle.der.specs.Places.{Bytes, part}
-use Rattle.der.specs.Model.{sameParts}
+use Rattle.parts.specs.Model.{sameParts}
 use Rattle.der.proofs.Invert.{peel}
-use Rattle.der.proofs.Equal.{same-yes, same-equal}
+use Rattle.parts.proofs.Equal.{same-yes, same-equal}
 use Rattle.cert.specs.declared.Certificate.{Certificate}
 use Rattle.cert.specs.declared.Reading.{Reading}
 use Rattle.cert.specs.declared.Reading.the-variants.{Accepted, Refused as NoCertificate}

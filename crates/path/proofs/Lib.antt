@@ -1,4 +1,2 @@
 pub mod Laws
 pub mod Checked
-pub mod Verdicts
-pub mod Paths

@@ -1,4 +1,2 @@
 pub mod Conditions
-pub mod Candidates
-pub mod Paths
 pub mod Model

@@ -5,8 +5,6 @@ ghost use mathlib.Core.List.{map};
 ghost use Rattle.lent.specs.Lent.{readingsIn, pre};
 ghost use Rattle.path.specs.Model.{checkedAs, checkIn};
 
-pub mod candidate;
-
 // The checks of the certificate s, of which that much is known: its key is not distrusted, and then its own.
 fn check_certificate(
     s: &[u8],

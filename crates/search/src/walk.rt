@@ -1,8 +1,8 @@
 // The walk through the candidates, up to the next question or the end.
+use candidate::Verdict;
 use lent::MOST_INTERMEDIATES;
 use machine::Phase;
 use machine::State;
-use path::candidate::Verdict;
 ghost use mathlib.Core.Path.{_≡_};
 ghost use mathlib.Core.List.{List, [], map};
 ghost use Prim.Native.Nat.{ℕ, _<_};
@@ -138,7 +138,7 @@ fn move_on<'a>(
     }
     next[depth] = i + 1;
     let t = State { next, ..s };
-    match path::candidate::verdict_on(
+    match candidate::verdict_on(
         table,
         issuers,
         end,

@@ -1,2 +1,1 @@
 pub mod SmallValues
-pub mod BitStrings

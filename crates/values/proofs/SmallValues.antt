@@ -13,10 +13,10 @@ use Rattle.refusal.specs.Refusals.{badDer, trailingBool}
 use Rattle.der.specs.declared.Span.{Span}
 use Rattle.der.specs.declared.Got.{Got}
 use Rattle.der.specs.declared.Got.the-variants.{Content, Refused as NoContent}
-use Rattle.values.specs.declared.small.Truth.{Truth}
-use Rattle.values.specs.declared.small.Truth.the-variants.{Is as Said, Refused as NoTruth}
-use Rattle.values.specs.declared.small.Small.{Small}
-use Rattle.values.specs.declared.small.Small.the-variants.{Number, Refused as NoNumber}
+use Rattle.values.specs.declared.Truth.{Truth}
+use Rattle.values.specs.declared.Truth.the-variants.{Is as Said, Refused as NoTruth}
+use Rattle.values.specs.declared.Small.{Small}
+use Rattle.values.specs.declared.Small.the-variants.{Number, Refused as NoNumber}
 use Rattle.der.specs.Places.{Bytes, part}
 use Rattle.der.specs.X690.{encoding, truth, valueOf, Natural}
 use Rattle.der.specs.Model.{LIMIT, highTag, expectAt, onContent}

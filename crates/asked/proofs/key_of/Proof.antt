@@ -1,6 +1,6 @@
 use mathlib.Core.Path.{sym, _∙_}
 use Rattle.asked.specs.Model.{keyIn}
-use Rattle.table.specs.Model.{onOutline}
+use Rattle.rows.specs.Model.{onOutline}
 use Rattle.asked.proofs.Laws.{key-lent, key-beyond}
 use borrow.Author.Needs.{needs}
 use native.Mathlib.Omega.{arith}

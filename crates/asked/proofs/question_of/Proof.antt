@@ -1,5 +1,5 @@
 use Rattle.asked.specs.Model.{questionIn}
-use Rattle.table.specs.Model.{onOutline}
+use Rattle.rows.specs.Model.{onOutline}
 use Rattle.asked.proofs.question_of.Statement.{statement}
 use Rattle.asked.proofs.question_of.Tie as tie
 

@@ -1,5 +1,6 @@
 use Rattle.extensions.specs.Model.{onKept}
-use Rattle.cert.specs.Model.{readCertificate, onParts, onBegun, onFound}
+use Rattle.envelope.specs.Model.{onParts, onBegun}
+use Rattle.cert.specs.Model.{readCertificate, onFound}
 use Rattle.cert.proofs.Cases.{read-case}
 use mathlib.Core.Path.{sym, _∙_}
 use Rattle.cert.proofs.read.Statement.{statement}

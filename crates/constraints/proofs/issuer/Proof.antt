@@ -5,7 +5,8 @@ use mathlib.Core.Path.{ap, _∙_}
 use borrow.Author.Needs.{needs}
 use native.Mathlib.Omega.{arith}
 use Rattle.entries.specs.Tally.{spend}
-use Rattle.constraints.specs.Paths.{Noted, certsAt}
+use Rattle.subtrees.specs.Noted.{Noted}
+use Rattle.constraints.specs.Paths.{certsAt}
 use Rattle.constraints.specs.Model.{ownIn}
 use Rattle.constraints.proofs.Laws.{at-issuer, at-end}
 use Rattle.constraints.proofs.issuer.Statement.{statement}

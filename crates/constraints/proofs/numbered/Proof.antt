@@ -3,8 +3,8 @@ use mathlib.Core.Path.{ap, _∙_}
 use borrow.Author.Needs.{needs}
 use native.Mathlib.Omega.{arith}
 use Rattle.entries.specs.Tally.{spend}
-use Rattle.constraints.specs.Paths.{Noted}
-use Rattle.constraints.specs.Model.{certificateAs}
+use Rattle.subtrees.specs.Noted.{Noted}
+use Rattle.subtrees.specs.Model.{certificateAs}
 use Rattle.constraints.proofs.Laws.{at-issuer, at-end}
 use Rattle.constraints.proofs.numbered.Statement.{statement}
 use Rattle.constraints.proofs.numbered.Tie as tie

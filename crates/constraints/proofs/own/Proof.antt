@@ -2,7 +2,7 @@
 use mathlib.Core.Path.{sym, ap, _∙_}
 use Rattle.entries.specs.Tally.{spend}
 use Rattle.entries.proofs.Spending.{at-once}
-use Rattle.constraints.specs.Paths.{noted}
+use Rattle.subtrees.specs.Noted.{noted}
 use Rattle.constraints.proofs.Turns.{own-bound, own-free, own-unread}
 use Rattle.constraints.proofs.own.Statement.{statement}
 use Rattle.constraints.proofs.own.Tie as tie

@@ -1,5 +1,6 @@
 -- `dns::lower` meets its contract. Assumes nothing.
-use Rattle.dns.specs.Names.{small, capital}
+use Rattle.labels.specs.Names.{capital}
+use Rattle.dns.specs.Names.{small}
 use borrow.Author.Needs.{needs}
 use Rattle.der.proofs.Laws.{tests}
 use Rattle.dns.proofs.lower.Statement.{statement}

@@ -3,7 +3,7 @@ use denote.Ref.{now}
 use mathlib.Core.List.{map}
 use mathlib.Core.Path.{sym, ap, _∙_}
 use native.Mathlib.Omega.{arith}
-use Rattle.table.specs.Model.{outlined}
+use Rattle.rows.specs.Model.{outlined}
 use Rattle.lent.specs.Lent.{readingsIn}
 use Rattle.lent.proofs.Laws.{OnLower, path-start, path-turn, path-found, path-end}
 use Rattle.machine.specs.World.{constrainedAs}

@@ -1,7 +1,8 @@
 use lib.ListN.{length}
 use native.Mathlib.Omega.{arith}
 use borrow.Author.Tests.{le-leb, lt-leb, eq-eqb, ne-eqb, lt-ltb, le-ltb}
-use Rattle.table.specs.Model.{outlined, rowReading, readingIn}
+use Rattle.rows.specs.Model.{outlined, rowReading}
+use Rattle.table.specs.Model.{readingIn}
 use borrow.Author.Needs.{needs}
 use Rattle.table.proofs.outline_at.Statement.{statement}
 use Rattle.table.proofs.outline_at.Tie as tie

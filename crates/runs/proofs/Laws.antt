@@ -1,0 +1,53 @@
+-- A search goes on from answer to answer. Assumes nothing.
+use Prim.Native.Nat.{ℕ, zero, suc, _+_, _≤_, _<_}
+use mathlib.Core.Path.{_≡_, refl, sym, _∙_, ap, subst}
+use mathlib.Core.List.{List, [], _∷_, _++_}
+use native.Mathlib.Omega.{arith}
+use lib.ListN.{length, getD, take}
+use Rattle.dialogue.specs.Model.{World, Tree, search}
+use Rattle.dialogue.specs.Dialogue.{give, follow}
+use Rattle.dialogue.proofs.Answers.{follow-more}
+use Rattle.machine.specs.declared.State.{State}
+use Rattle.machine.specs.declared.Phase.the-variants.{Walk}
+use Rattle.machine.specs.Machine.{treeOf, effort, Halted, begun, Started}
+use Rattle.runs.specs.Runs.{Came}
+
+-- the answers given one after the other
+pub take-more : (l : List ℕ) (i : ℕ) → i < length l → take (i + 1) l ≡ take i l ++ (getD l i 0 ∷ [])
+take-more l i h =
+    let e : i + 1 ≡ suc i = omega arith in
+    ap (λ (j : ℕ). take j l) e ∙ by l i h
+  where
+    by : (l : List ℕ) (i : ℕ) → i < length l → take (suc i) l ≡ take i l ++ (getD l i 0 ∷ [])
+    by [] i h = absurd (omega (arith, h))
+    by (x ∷ l) zero h = refl
+    by (x ∷ l) (suc i) h = ap (λ (m : List ℕ). x ∷ m) (by l i (omega (arith, h)))
+
+pub take-all : (l : List ℕ) (i : ℕ) → length l ≤ i → take i l ≡ l
+take-all [] zero h = refl
+take-all [] (suc i) h = refl
+take-all (x ∷ l) zero h = absurd (omega (arith, h))
+take-all (x ∷ l) (suc i) h = ap (λ (m : List ℕ). x ∷ m) (take-all l i (omega (arith, h)))
+
+module _ (W : World) (end s b n : ℕ) where
+  pub going : (r : State) → Started W end s b n r → Came W end s b n [] r
+  unfolding follow
+  going r h = record { same = h .same; deep = h .deep; halts = h .halts; phase = h .phase; begins = h .begins; moves = h .moves; ran = h .ran }
+
+  pub goes-on : (said then : List ℕ) (u r : State) (a : ℕ) → then ≡ said ++ (a ∷ []) → Came W end s b n said u
+      → (u .depth < 7 → (u .phase ≡ Walk → ⊥) → Halted W u r (a ∷ []) (give (treeOf W u) a) (effort W u)) → Came W end s b n then r
+  goes-on said then u r a e g h =
+      let k = h (g .deep) (g .halts) in
+      let m = k .ran (begun end s b n (g .phase)) said (g .moves) (g .ran) in
+      subst (λ (l : List ℕ). Came W end s b n l r) (sym e) record {
+        same = k .same ∙ ap (λ (t : Tree). give t a) (g .same) ∙ sym (follow-more (search W end s b n) said a);
+        deep = k .deep;
+        halts = k .halts;
+        phase = g .phase;
+        begins = g .begins;
+        moves = m .0;
+        ran = m .1;
+      }
+
+  pub came : (said all : List ℕ) (r : State) → said ≡ all → Came W end s b n said r → Came W end s b n all r
+  came said all r e = subst (λ (l : List ℕ). Came W end s b n l r) e

@@ -1,0 +1,4 @@
+pub mod Rfc5280Names
+pub mod Noted
+pub mod Model
+pub mod Presents

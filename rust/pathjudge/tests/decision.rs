@@ -1,5 +1,8 @@
 //! Decisions over the chain of three, through the public interface alone.
-use pathjudge::{Anchor, AnchorArray, Answer, Budgets, Bytes, Key, Name, Party, Path, Purpose, Question, Refusal, Request, Row, Search, Signatures, State, good_for, read};
+use pathjudge::{
+    good_for, read, Anchor, AnchorArray, Answer, Budgets, Bytes, Key, Name, Party, Path, Purpose, Question, Refusal, Request, Row, Search,
+    Signatures, State,
+};
 use std::net::IpAddr;
 
 const ROOT: &[u8] = include_bytes!("chain/root.der");

@@ -1,9 +1,10 @@
 -- A search goes on from answer to answer. Assumes nothing.
-use Prim.Native.Nat.{ℕ, zero, suc, _+_, _≤_, _<_}
-use mathlib.Core.Path.{_≡_, refl, sym, _∙_, ap, subst}
+use Prim.Native.Nat.{ℕ, suc, _+_, _<_}
+use mathlib.Core.Path.{_≡_, sym, _∙_, ap, subst}
 use mathlib.Core.List.{List, [], _∷_, _++_}
 use native.Mathlib.Omega.{arith}
 use lib.ListN.{length, getD, take}
+use lib.Seq.{take-suc}
 use Rattle.dialogue.specs.Model.{World, Tree, search}
 use Rattle.dialogue.specs.Dialogue.{give, follow}
 use Rattle.dialogue.proofs.Answers.{follow-more}
@@ -12,22 +13,11 @@ use Rattle.machine.specs.declared.Phase.the-variants.{Walk}
 use Rattle.machine.specs.Machine.{treeOf, effort, Halted, begun, Started}
 use Rattle.runs.specs.Runs.{Came}
 
--- the answers given one after the other
+-- one more answer
 pub take-more : (l : List ℕ) (i : ℕ) → i < length l → take (i + 1) l ≡ take i l ++ (getD l i 0 ∷ [])
 take-more l i h =
     let e : i + 1 ≡ suc i = omega arith in
-    ap (λ (j : ℕ). take j l) e ∙ by l i h
-  where
-    by : (l : List ℕ) (i : ℕ) → i < length l → take (suc i) l ≡ take i l ++ (getD l i 0 ∷ [])
-    by [] i h = absurd (omega (arith, h))
-    by (x ∷ l) zero h = refl
-    by (x ∷ l) (suc i) h = ap (λ (m : List ℕ). x ∷ m) (by l i (omega (arith, h)))
-
-pub take-all : (l : List ℕ) (i : ℕ) → length l ≤ i → take i l ≡ l
-take-all [] zero h = refl
-take-all [] (suc i) h = refl
-take-all (x ∷ l) zero h = absurd (omega (arith, h))
-take-all (x ∷ l) (suc i) h = ap (λ (m : List ℕ). x ∷ m) (take-all l i (omega (arith, h)))
+    ap (λ (j : ℕ). take j l) e ∙ take-suc l i 0 h
 
 module _ (W : World) (end s b n : ℕ) where
   pub going : (r : State) → Started W end s b n r → Came W end s b n [] r

@@ -2,13 +2,14 @@
 use Prim.Native.Nat.{_+_, _-_, _≤_}
 use mathlib.Core.List.{map}
 use lib.ListN.{length, take}
+use lib.Seq.{take-all}
 use denote.Ref.{now}
 use native.Mathlib.Omega.{arith}
 use borrow.Author.Needs.{needs}
 use Rattle.lent.specs.Lent.{readingsIn}
 use Rattle.machine.specs.World.{worldIn}
 use Rattle.runs.specs.Runs.{Came}
-use Rattle.runs.proofs.Laws.{take-more, take-all, going, goes-on, came}
+use Rattle.runs.proofs.Laws.{take-more, going, goes-on, came}
 use Rattle.runs.proofs.run.Statement.{statement}
 use Rattle.runs.proofs.run.Tie as tie
 
@@ -48,7 +49,7 @@ loop-again c =
 returns : tie.Need-returns Inv-loop μ-loop
 returns c =
     let a = c .before .before .before .before .before .before .before .args in
-    came _ _ _ _ _ _ _ _ (take-all (a .answers .now) (c .before .loop .i) (omega arith)) (c .before .loop .inv .1)
+    came _ _ _ _ _ _ _ _ (take-all (c .before .loop .i) (a .answers .now) (omega arith)) (c .before .loop .inv .1)
 
 pub run-spec : {M : Type 1} → statement M
 run-spec =

@@ -113,7 +113,7 @@ total share (suc count) i = share i + total share count (suc i)
 -- at a path of d certificates each event of candidate i weighs at most `share d i`; the shares, and leaving the path, come to at most m d, and so does a
 -- refusal that is noted of no candidate; longer paths come to no less
 pub record Weighed (W : World) (w : Placed → ℕ) (share : ℕ → ℕ → ℕ) (m : ℕ → ℕ) : Type 0 where
-  pub passes : (p : Path) (i x : ℕ) → i < W .candidates → 0 < length p → w (at p i (note x)) ≤ share (length p) i
+  pub passes : (p : Path) (i x : ℕ) → 0 < length p → w (at p i (note x)) ≤ share (length p) i
   pub tries : (p : Path) (i : ℕ) → W .verdict p i ≡ Anchor → w (at p i (try i p)) ≤ share (length p) i
   pub extends : (p : Path) (i : ℕ) → W .verdict p i ≡ Extend → w (at p i extension) ≤ share (length p) i
   pub noted : (p : Path) (x d : ℕ) → w (at p (W .candidates) (note x)) ≤ m d
@@ -130,15 +130,15 @@ module _ (W : World) (w : Placed → ℕ) (share : ℕ → ℕ → ℕ) (m : ℕ
   Entering d ps n = (k b : ℕ) → d ≤ k → paidAt w ps b ≤ m (longest k) + n + entered m (suc k) b
 
   module _ (room : ℕ) (deeper : (q : Path) (d : ℕ) (ps : List Placed) (n : ℕ) → length q ≡ suc d → d + room ≡ suc mostIntermediates → Within d ps n → Entering d (enterAt W room q ++ ps) n) where
-    each-within : (q : Path) (ps : List Placed) (n count i : ℕ) → 0 < length q → length q + room ≡ suc mostIntermediates → i + count ≡ W .candidates
+    each-within : (q : Path) (ps : List Placed) (n count i : ℕ) → 0 < length q → length q + room ≡ suc mostIntermediates
         → Within (length q) ps n → Within (length q) (eachAt W (enterAt W room) q count i ++ ps) (total (share (length q)) count i + n)
     unfolding eachAt oneAt paidAt total entered
-    each-within q ps n zero i o r c h k b l = omega (arith, h k b l)
-    each-within q ps n (suc count) i o r c h k b l = by (W .verdict q i) refl b (each-within q ps n count (suc i) o r (omega (arith, c)) h)
+    each-within q ps n zero i o r h k b l = omega (arith, h k b l)
+    each-within q ps n (suc count) i o r h k b l = by (W .verdict q i) refl b (each-within q ps n count (suc i) o r h)
       where
         by : (v : Verdict) → W .verdict q i ≡ v → (b : ℕ) → Within (length q) (eachAt W (enterAt W room) q count (suc i) ++ ps) (total (share (length q)) count (suc i) + n)
             → paidAt w ((oneAt (enterAt W room) q i v ++ eachAt W (enterAt W room) q count (suc i)) ++ ps) b ≤ share (length q) i + total (share (length q)) count (suc i) + n + entered m k b
-        by (Pass x) e b t = omega (arith, t k b l, g .passes q i x (omega (arith, c)) o)
+        by (Pass x) e b t = omega (arith, t k b l, g .passes q i x o)
         by Anchor e b t = omega (arith, t k b l, g .tries q i e)
         by Extend e zero t = omega (arith, g .extends q i e)
         by Extend e (suc b) t =
@@ -159,7 +159,7 @@ module _ (W : World) (w : Placed → ℕ) (share : ℕ → ℕ → ℕ) (m : ℕ
   enter-within (suc room) q d ps n e r h k b l =
       by (W .check q)
       (each-within room (enter-within room) q (at q (W .candidates) leave ∷ ps) (w (at q (W .candidates) leave) + n) (W .candidates) 0
-      (omega (arith, e)) (omega (arith, e, r)) (omega arith) (λ k′ b′ l′. omega (arith, h k′ b′ (omega (arith, l′, e)))) (suc k) b (omega (arith, e, l)))
+      (omega (arith, e)) (omega (arith, e, r)) (λ k′ b′ l′. omega (arith, h k′ b′ (omega (arith, l′, e)))) (suc k) b (omega (arith, e, l)))
     where
       by : (x : ℕ)
           → paidAt w (eachAt W (enterAt W room) q (W .candidates) 0 ++ (at q (W .candidates) leave ∷ ps)) b ≤ total (share (length q)) (W .candidates) 0 + (w (at q (W .candidates) leave) + n) + entered m (suc k) b
@@ -193,7 +193,7 @@ weight-one (p ∷ ps) = omega (arith, weight-one ps)
 
 counted : (W : World) → Weighed W (λ p. 1) (λ d i. 1) (λ d. suc (W .candidates))
 counted W = record {
-  passes = λ p i x l o. omega arith;
+  passes = λ p i x o. omega arith;
   tries = λ p i e. omega arith;
   extends = λ p i e. omega arith;
   noted = λ p x d. omega arith;
@@ -225,7 +225,7 @@ total-shares anchors issuers x y (suc some) i h =
     rw q (rw (lt-ltb i anchors (omega (arith, h))) (omega (arith, total-shares anchors issuers x y some (suc i) (omega (arith, h)), mul-suc x some)))
 
 -- an anchor weighs at most x d, whatever becomes of it, an intermediate y d, and nothing else weighs anything
-pub record Split (W : World) (anchors issuers : ℕ) (w : Placed → ℕ) (x y : ℕ → ℕ) : Type 0 where
+pub record Split (W : World) (anchors : ℕ) (w : Placed → ℕ) (x y : ℕ → ℕ) : Type 0 where
   pub passed : (p : Path) (i e : ℕ) → 0 < length p → i < anchors → w (at p i (note e)) ≤ x (length p)
   pub tried : (p : Path) (i : ℕ) → w (at p i (try i p)) ≤ x (length p)
   pub looked : (p : Path) (i e : ℕ) → anchors ≤ i → w (at p i (note e)) ≤ y (length p)
@@ -234,10 +234,10 @@ pub record Split (W : World) (anchors issuers : ℕ) (w : Placed → ℕ) (x y :
   pub left : (p : Path) → w (at p (W .candidates) leave) ≡ 0
   pub more : (d e : ℕ) → d ≤ e → (x d ≤ x e) × (y d ≤ y e)
 
-split-weighed : (W : World) (anchors issuers : ℕ) (w : Placed → ℕ) (x y : ℕ → ℕ) → Sorted W anchors issuers → Split W anchors issuers w x y
+split-weighed : (W : World) (anchors issuers : ℕ) (w : Placed → ℕ) (x y : ℕ → ℕ) → Sorted W anchors issuers → Split W anchors w x y
     → Weighed W w (λ d. shareOf anchors (x d) (y d)) (λ d. x d * anchors + y d * issuers)
 split-weighed W anchors issuers w x y sorted split = record {
-  passes = λ p i e l o. by p i e o (ltb i anchors) refl;
+  passes = λ p i e o. by p i e o (ltb i anchors) refl;
   tries = λ p i e. rw (lt-ltb i anchors (sorted .tried p i e)) (split .tried p i);
   extends = λ p i e. rw (le-ltb i anchors (sorted .extended p i e)) (split .extended p i);
   noted = λ p e d. omega (arith, split .ended p e);
@@ -306,7 +306,7 @@ module _ (W : World) (end s b n : ℕ) (turns : List Turn) (r : Outcome) (h : Le
       )
 
   module _ (anchors issuers : ℕ) (sorted : Sorted W anchors issuers) where
-    few : (w : Placed → ℕ) (x y : ℕ → ℕ) → Split W anchors issuers w x y → weight w reached ≤ entered (λ d. x d * anchors + y d * issuers) 0 (suc b)
+    few : (w : Placed → ℕ) (x y : ℕ → ℕ) → Split W anchors w x y → weight w reached ≤ entered (λ d. x d * anchors + y d * issuers) 0 (suc b)
     few w x y split = reached-weight w (λ d. shareOf anchors (x d) (y d)) (λ d. x d * anchors + y d * issuers) (split-weighed W anchors issuers w x y sorted split)
 
     chosen : (t : Bool) (y : ℕ) → cond t y 0 ≤ y

@@ -67,8 +67,7 @@ add('D19', 'ok; name=yes', leaf([san(dns('_a.example.com'))]), names=[('dns', '_
     anchors=[anchor('R', 'kr', nc_value([dns('_a.example.com')]))])
 con('D20-inside', 'no:InvalidNetworkMaskConstraint', [ip([10, 0, 0, 1])], nc_value(None, [ip('0a000000ff00ff00')]))
 con('D20-outside', 'ok', [ip([11, 0, 0, 1])], nc_value(None, [ip('0a000000ff00ff00')]))
-MAIL_ADDRESS = tlv(0x31, seq(oid('1.2.840.113549.1.9.1'), tlv(0x16, b'm@elsewhere')))
-con('D21', 'ok', [], nc_value([mail('a.b')]), subject_raw=MAIL_ADDRESS)
+con('D21', 'ok', [], nc_value([mail('a.b')]), subject_raw=mail_subject('m@elsewhere'))
 for value in ('a000', 'a100', 'a000a100', ''):
     con('D22-' + (value or 'empty'), 'ok', [dns('a.b')], bytes.fromhex(value))
 con('D22-broken-name', 'no:BadDer', [tlv(0x89, b'')], bytes.fromhex('a000'))

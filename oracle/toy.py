@@ -40,6 +40,10 @@ def name(cn, kind=0x0c):
         return b''
     return tlv(0x31, seq(oid('2.5.4.3'), tlv(kind, cn.encode())))
 
+def mail_subject(address):
+    """The content of a Name that has a mail address alone."""
+    return tlv(0x31, seq(oid('1.2.840.113549.1.9.1'), tlv(0x16, address.encode())))
+
 def spki(key, alg='A', unused=0):
     """The content of a SubjectPublicKeyInfo. The key is a text; the toy's secret is the same text."""
     k = key if isinstance(key, bytes) else key.encode()
@@ -92,19 +96,20 @@ V3 = bytes.fromhex('a003020102')
 
 def cert(subject, issuer, key, signer, exts=None, *, serial=b'\x02\x01\x01', version=V3, nb=NB, na=NA,
          alg='A', inner_alg=None, key_alg='A', spki_value=None, validity=None, sig=None, sig_unused=0,
-         sig_tlv=None, subject_raw=None, issuer_raw=None, ext_field=None, before_ext=b'', after_ext=b'',
+         sig_tlv=None, subject_raw=None, issuer_raw=None, fields=None, ext_field=None, before_ext=b'', after_ext=b'',
          after_sig=b'', after=b''):
-    """exts: list of encoded extensions or None for no [3]. signer: the key text of whoever signs."""
+    """exts: list of encoded extensions or None for no [3]. signer: the key text of whoever signs.
+    fields: encoded values in place of issuer, validity, subject and key."""
     a = seq(ALG[alg]) if isinstance(alg, str) else alg
     ia = a if inner_alg is None else (seq(ALG[inner_alg]) if isinstance(inner_alg, str) else inner_alg)
     if ext_field is None:
         ext_field = b'' if exts is None else tlv(0xa3, seq(*exts))
-    tbs = seq(version, serial, ia,
-              tlv(0x30, issuer_raw if issuer_raw is not None else name(issuer)),
-              validity if validity is not None else seq(nb, na),
-              tlv(0x30, subject_raw if subject_raw is not None else name(subject)),
-              tlv(0x30, spki_value if spki_value is not None else spki(key, key_alg)),
-              before_ext, ext_field, after_ext)
+    if fields is None:
+        fields = [tlv(0x30, issuer_raw if issuer_raw is not None else name(issuer)),
+                  validity if validity is not None else seq(nb, na),
+                  tlv(0x30, subject_raw if subject_raw is not None else name(subject)),
+                  tlv(0x30, spki_value if spki_value is not None else spki(key, key_alg))]
+    tbs = seq(version, serial, ia, *fields, before_ext, ext_field, after_ext)
     s = sig if sig is not None else (signer if isinstance(signer, bytes) else signer.encode())
     st = sig_tlv if sig_tlv is not None else bits(s, sig_unused)
     return seq(tbs, a, st, after_sig) + after

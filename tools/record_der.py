@@ -2,24 +2,18 @@
 """The vectors of crate der_vectors: `cases` prints its standard input; `answers ORACLE` reads that and prints what is to be found.
 
 The answers are worked out by the reader below, which is written from ITU-T X.690 and shares nothing with the crate. Where a certificate can
-put the same question to the Rust, it is put, by the program ORACLE (case format and toy certificates: the oracle's own README), and this
+put the same question to the Rust, it is put, by the program ORACLE (case format and toy certificates: docs/ORACLE.md), and this
 script stops at the first line on which the two differ. Asked so: a value and a row (object identifiers of the key purposes), a BOOLEAN and
 a number (basic constraints), a BIT STRING (the signature), and the sizes around the limit (the certificate as a whole).
 Usage: tools/record_der.py cases > crates/der_vectors/stdin
        tools/record_der.py answers ORACLE < crates/der_vectors/stdin > crates/der_vectors/stdout"""
-import subprocess, sys
+import sys
+
+sys.dont_write_bytecode = True
+from vectors import ask, main, outcome, padded, unpadded
+from toy import BC, EKU, cert, ext, seq
 
 LIMIT = 65535
-
-
-def tlv(tag, content):
-    n = len(content)
-    if n < 128:
-        head = bytes([n])
-    else:
-        size = (n.bit_length() + 7) // 8
-        head = bytes([128 + size]) + n.to_bytes(size, 'big')
-    return bytes([tag]) + head + content
 
 
 # ---- the cases
@@ -27,7 +21,7 @@ def cases():
     lines = []
 
     def add(head, zeros=0):
-        lines.append(head + ('+%d' % zeros if zeros else ''))
+        lines.append(padded(head, zeros))
 
     for tag in ('06', '02', '30', '1f', 'bf', '9f', 'ff', '00', 'a0', '81'):   # identifiers: one octet, or five ones in the low bits
         add(tag + '00')
@@ -180,15 +174,13 @@ def reading(b):
 
 
 # ---- the Rust
-ALGORITHM = tlv(0x30, bytes.fromhex('06032a0304'))
+def certificate(*extensions, **kw):
+    return cert('', '', 'a', 'a', extensions or None, **kw)
 
 
-def certificate(extensions=(), signature=bytes.fromhex('03020061')):
-    exts = tlv(0xa3, tlv(0x30, b''.join(tlv(0x30, tlv(6, bytes([0x55, 0x1d, k])) + tlv(4, v)) for k, v in extensions))) if extensions else b''
-    times = tlv(0x30, tlv(0x17, b'200101000000Z') + tlv(0x17, b'400101000000Z'))
-    key = tlv(0x30, ALGORITHM + bytes.fromhex('03020061'))
-    body = bytes.fromhex('a003020102020101') + ALGORITHM + tlv(0x30, b'') + times + tlv(0x30, b'') + key + exts
-    return tlv(0x30, tlv(0x30, body) + ALGORITHM + signature)
+def filled(room):
+    """A certificate with an extension of so many zeros."""
+    return certificate(ext('2.5.29.99', bytes(room)))
 
 
 def questions(b):
@@ -206,25 +198,24 @@ def questions(b):
             answer = 'RequiredEkuNotFoundContext'
         except Broken:
             answer = 'BadDer'
-        asked.append((certificate([(37, tlv(0x30, b))]), answer))
+        asked.append((certificate(ext(EKU, seq(b))), answer))
     if small and b[:1] == b'\x01' and (boolean(b).split()[-1] == str(len(b)) or not boolean(b).split()[-1].isdigit()):
         # basic constraints: a BOOLEAN and nothing else
         said = boolean(b)
         answer = {'true': 'CaUsedAsEndEntity', 'false': 'UnknownIssuer'}.get(said.split()[0], said)
-        asked.append((certificate([(19, tlv(0x30, b))]), answer))
+        asked.append((certificate(ext(BC, seq(b))), answer))
     if small and b[:1] == b'\x02':
         # basic constraints: no BOOLEAN, a number from 0 to 255 and nothing else
-        asked.append((certificate([(19, tlv(0x30, b))]), 'UnknownIssuer' if byte(b).split()[-1] == str(len(b)) else 'BadDer'))
+        asked.append((certificate(ext(BC, seq(b))), 'UnknownIssuer' if byte(b).split()[-1] == str(len(b)) else 'BadDer'))
     if small and b[:1] == b'\x03':
         # the signature, with nothing after it
         said = bits(b)
         answer = said if not said[0].isdigit() else 'UnknownIssuer' if said.split()[-1] == str(len(b)) else 'TrailingData(SignedData)'
-        asked.append((certificate(signature=b), answer))
+        asked.append((certificate(sig_tlv=b), answer))
     if not small:
         # a certificate whose own content has the size that the line announces
         wanted = len(b) - 4 if b[1] == 0x82 else len(b) - 5
-        room = wanted - len(certificate([(99, b'\0' * 60000)])[4:]) + 60000
-        c = certificate([(99, b'\0' * room)])
+        c = filled(wanted - len(filled(60000)[4:]) + 60000)
         head = bytes([0x30]) + b[1:len(b) - wanted]
         c = head + c[len(c) - wanted:]
         asked.append((c, 'UnknownIssuer' if not reading(b).startswith('value BadDer') else 'TrailingData(SignedData)'))
@@ -235,26 +226,17 @@ def answers(oracle):
     lines = [line.rstrip('\n') for line in sys.stdin]
     found, cases, wanted = [], [], []
     for line in lines:
-        head, _, zeros = line.partition('+')
-        b = bytes.fromhex(head) + bytes(int(zeros or 0))
+        b = unpadded(line)
         found.append(reading(b))
         for c, answer in questions(b):
-            cases.append('case %d\nee %s\nend\n' % (len(cases), c.hex()))
+            cases.append(dict(ee=c))
             wanted.append((line[:40], answer))
-    out = subprocess.run([oracle, '-'], input=''.join(cases), capture_output=True, text=True, check=True).stdout.splitlines()
-    assert len(out) == len(wanted), (len(out), len(wanted))
-    for text, (line, answer) in zip(out, wanted):
-        parts = [p.strip() for p in text.split('|')]
-        said = parts[2] if parts[1] == 'parse ok' else parts[1]
-        if said.split()[-1] != answer:
+    for read, (line, answer) in zip(ask(oracle, cases), wanted):
+        said = outcome(read['path' if read['parse'] == 'ok' else 'parse'])
+        if said != answer:
             sys.exit('%s: the oracle says %s, X.690 %s' % (line, said, answer))
     print('%d questions put to the oracle, all agree' % len(wanted), file=sys.stderr)
     print('\n'.join(found))
 
 
-if sys.argv[1:2] == ['cases']:
-    print('\n'.join(cases()))
-elif sys.argv[1:2] == ['answers'] and len(sys.argv) == 3:
-    answers(sys.argv[2])
-else:
-    sys.exit(__doc__)
+main(__doc__, cases, answers)

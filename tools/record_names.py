@@ -2,21 +2,17 @@
 """The vectors of crate names_vectors: `cases` prints its standard input; `answers ORACLE` reads that and prints what the Rust says.
 
 A line is a question, the length of a first text, that text and a second one. Each is put to the program ORACLE as toy certificates (case
-format: the oracle's own README): a presented name stands in the alternative names, an entry in an anchor's name constraints, a wanted name
+format: docs/ORACLE.md): a presented name stands in the alternative names, an entry in an anchor's name constraints, a wanted name
 is looked for. The place of a general name is read by X.690, since the Rust does not report it; whether it can be read is asked.
 Usage: tools/record_names.py cases > crates/names_vectors/stdin
        tools/record_names.py answers ORACLE < crates/names_vectors/stdin > crates/names_vectors/stdout"""
-import itertools, subprocess, sys
+import itertools, sys
+
+sys.dont_write_bytecode = True
+from vectors import ask, main, outcome
+from toy import anchor, cert, dns, ip, nc_value, san, tlv, uri
 
 VALID, WANTED, ENTRY, SUBNET, DNS, IP, NAME = range(7)
-
-
-def tlv(tag, content):
-    n = len(content)
-    if n < 128:
-        return bytes([tag, n]) + content
-    size = (n.bit_length() + 7) // 8
-    return bytes([tag, 128 + size]) + n.to_bytes(size, 'big') + content
 
 
 def texts(alphabet, longest):
@@ -95,12 +91,12 @@ def cases():
             add(SUBNET, b'\x0a\x55\xaa\x01', b'\x0a\x55\xaa\x01' + mask)
             add(SUBNET, b'\x0a\x5d\xaa\x09', b'\x0a\x55\xaa\x01' + mask)
     # alternative names, and what is looked for in them
-    www, star, bad, four, six = tlv(0x82, b'www.a'), tlv(0x82, b'*.a.b'), tlv(0x82, b'a.'), tlv(0x87, bytes(4)), tlv(0x87, bytes(range(16)))
+    www, star, bad, four, six = dns('www.a'), dns('*.a.b'), dns('a.'), ip(bytes(4)), ip(range(16))
     other = [tlv(t, b'www.a') for t in (0xa0, 0x81, 0xa3, 0xa4, 0xa5, 0x86, 0x88)]
     breaks = [b'\x82', b'\x82\x06www.a', b'\x9f\x00', b'\x89\x00', b'\xa2\x05www.a', b'\x82\x81\x05www.a', b'\x80\x00']
-    rows = [b''] + [b''.join(r) for n in (1, 2) for r in itertools.product([www, star, bad, four, six, tlv(0x82, b''), tlv(0x87, b'')], repeat=n)]
+    rows = [b''] + [b''.join(r) for n in (1, 2) for r in itertools.product([www, star, bad, four, six, dns(''), ip(b'')], repeat=n)]
     rows += [o for o in other] + [o + www for o in other] + [x + y + z for x in breaks for y in (www, four) for z in (b'', six)]
-    rows += [x + y for x in (www, four, b''.join(other)) for y in breaks] + [tlv(0x82, b'x' * 200) + www, tlv(0x86, b'x' * 300) + four]
+    rows += [x + y for x in (www, four, b''.join(other)) for y in breaks] + [dns('x' * 200) + www, uri('x' * 300) + four]
     for row in rows:
         for name in (b'www.a', b'WWW.A.', b'x.a.b', b'a.b', b'a', b'a..'):
             add(DNS, name, row)
@@ -108,47 +104,30 @@ def cases():
             add(IP, name, row)
     for tag in range(256):
         add(NAME, b'', tlv(tag, b'xy'))
-    for row in (b'', b'\x82', www + four, tlv(0x82, b''), tlv(0x86, b'x' * 127), tlv(0x86, b'x' * 128), tlv(0x86, b'x' * 255), tlv(0x86, b'x' * 256), b'\x82\x81\x05www.a', b'\x82\x06www.a'):
+    for row in (b'', b'\x82', www + four, dns(''), uri('x' * 127), uri('x' * 128), uri('x' * 255), uri('x' * 256), b'\x82\x81\x05www.a', b'\x82\x06www.a'):
         add(NAME, b'', row)
     return lines
 
 
-# ---- toy certificates
-ALGORITHM = tlv(0x30, bytes.fromhex('06032a0304'))
-KEY = tlv(0x30, bytes.fromhex('06032a0304')) + bytes.fromhex('03020061')
-
-
-def case(names, permitted=None, excluded=None, wanted=()):
-    """An end entity with these alternative names, under an anchor with these entries, and what is looked for in it."""
-    extension = tlv(0x30, tlv(6, b'\x55\x1d\x11') + tlv(4, tlv(0x30, names)))
-    times = tlv(0x30, tlv(0x17, b'200101000000Z') + tlv(0x17, b'400101000000Z'))
-    body = bytes.fromhex('a003020102020101') + ALGORITHM + tlv(0x30, b'') + times + tlv(0x30, b'') + tlv(0x30, KEY) + tlv(0xa3, tlv(0x30, extension))
-    ee = tlv(0x30, tlv(0x30, body) + ALGORITHM + bytes.fromhex('03020061'))
-    entries = (tlv(0xa0, tlv(0x30, permitted)) if permitted is not None else b'') + (tlv(0xa1, tlv(0x30, excluded)) if excluded is not None else b'')
-    lines = ['ee ' + ee.hex(), 'anchor - %s %s' % (KEY.hex(), entries.hex() or '-')]
-    return lines + ['name %s %s' % (kind, text.hex() or '-') for kind, text in wanted]
-
-
+# ---- the Rust
 class Oracle:
     def __init__(self, program):
         self.program, self.cases, self.said = program, [], []
 
-    def ask(self, *args, **more):
-        self.cases.append(case(*args, **more))
+    def ask(self, names, permitted=None, excluded=None, wanted=()):
+        """An end entity with these alternative names, under an anchor with these lists of entries, and what is looked for in it."""
+        top = anchor('', 'a', nc_value(permitted, excluded) or None)    # without lists, no constraints
+        self.cases.append(dict(ee=cert('', '', 'a', 'a', [san(names)]), anchors=[top], names=wanted))
         return len(self.cases) - 1
 
     def run(self):
-        text = ''.join('case %d\n%s\nend\n' % (i, '\n'.join(c)) for i, c in enumerate(self.cases))
-        self.said = subprocess.run([self.program, '-'], input=text, capture_output=True, text=True, check=True).stdout.splitlines()
-        assert len(self.said) == len(self.cases)
+        self.said = ask(self.program, self.cases)
 
     def path(self, i):
-        part = self.said[i].split(' | ')[2]
-        return part.split()[2] if part.startswith('path err') else 'ok'
+        return outcome(self.said[i]['path'])
 
     def name(self, i):
-        part = [p for p in self.said[i].split(' | ') if p.startswith('name ')][0]
-        return part[5:].replace('err ', '')
+        return outcome(self.said[i]['name'])
 
 
 def general(b):
@@ -183,21 +162,21 @@ def answers(program):
         b = bytes.fromhex(line.strip())
         question, first, second = b[0], b[2:2 + b[1]], b[2 + b[1]:]
         if question == VALID:
-            p = oracle.ask(tlv(0x82, second), excluded=tlv(0x82, b'q'), wanted=[('dns', second)])
-            e = oracle.ask(tlv(0x82, b'q.q'), excluded=tlv(0x82, second))
+            p = oracle.ask(dns(second), excluded=[dns('q')], wanted=[('dns', second)])
+            e = oracle.ask(dns('q.q'), excluded=[dns(second)])
             found.append(lambda p=p, e=e: 'presented %s; wanted %s; entry %s' % (
                 yes(oracle.path(p) != 'MalformedDnsIdentifier'), yes(oracle.name(p) != 'invalid'), yes(oracle.path(e) != 'MalformedNameConstraint')))
         elif question == WANTED:
             # a presented name that is none is passed over when a name is looked for: whether it is one is asked by an entry
-            p = oracle.ask(tlv(0x82, first), excluded=tlv(0x82, b'q'), wanted=[('dns', second)])
+            p = oracle.ask(dns(first), excluded=[dns('q')], wanted=[('dns', second)])
             found.append(lambda p=p: 'wanted ' + ('MalformedDnsIdentifier' if 'MalformedDnsIdentifier' == oracle.path(p) or oracle.name(p) == 'invalid'
                                                   else {'ok': 'yes', 'CertNotValidForName': 'no'}[oracle.name(p)]))
         elif question == ENTRY:
-            p = oracle.ask(tlv(0x82, first), permitted=tlv(0x82, second))
-            e = oracle.ask(tlv(0x82, first), excluded=tlv(0x82, second))
+            p = oracle.ask(dns(first), permitted=[dns(second)])
+            e = oracle.ask(dns(first), excluded=[dns(second)])
             found.append(lambda p=p, e=e: 'permitted %s; excluded %s' % (permits(oracle.path(p)), excludes(oracle.path(e))))
         elif question == SUBNET:
-            e = oracle.ask(tlv(0x87, first), excluded=tlv(0x87, second))
+            e = oracle.ask(ip(first), excluded=[ip(second)])
             found.append(lambda e=e: 'subnet ' + excludes(oracle.path(e)))
         elif question == DNS:
             n = oracle.ask(second, wanted=[('dns', first)])
@@ -221,9 +200,4 @@ def answers(program):
         print(f())
 
 
-if sys.argv[1:2] == ['cases']:
-    print('\n'.join(cases()))
-elif sys.argv[1:2] == ['answers'] and len(sys.argv) == 3:
-    answers(sys.argv[2])
-else:
-    sys.exit(__doc__)
+main(__doc__, cases, answers)

@@ -1,7 +1,7 @@
 -- What a signature question is about and what an answer comes to, by what is known of each certificate: the same tests in the same order as the code. Each has an
 -- abbreviation for the case that what is known is what is read of the bytes.
 use Prim.Native.Nat.{ℕ}
-use mathlib.Core.List.{List, [], _∷_}
+use mathlib.Core.List.{List, []}
 use mathlib.Core.Bool.{cond}
 use lib.ListN.{length, getD}
 use lib.Dec.{ltb, eqb}

@@ -22,7 +22,7 @@ pub enum Question {
 // The parts of the key that has a number: an anchor's, or a certificate's.
 fn key_of<'a>(
     table: &[[usize; 37]],
-    issuers: &'a [&'a [u8]],
+    issuers: &[&'a [u8]],
     end: &'a [u8],
     keys: &[&[u8]],
     anchors: usize,
@@ -50,7 +50,7 @@ fn key_of<'a>(
 // Whether key `key` signed the certificate `number`.
 pub fn question_of<'a>(
     table: &[[usize; 37]],
-    issuers: &'a [&'a [u8]],
+    issuers: &[&'a [u8]],
     end: &'a [u8],
     keys: &[&[u8]],
     anchors: usize,
@@ -80,7 +80,7 @@ pub fn question_of<'a>(
 // key that can be read.
 pub fn reply_for<'a>(
     table: &[[usize; 37]],
-    issuers: &'a [&'a [u8]],
+    issuers: &[&'a [u8]],
     end: &'a [u8],
     keys: &[&[u8]],
     anchors: usize,

@@ -1,18 +1,17 @@
 -- THEOREMS: which BIT STRINGs are accepted, whole and as flags, and which of them say the same flags. Assumes nothing.
 use Prim.Native.Nat.{ℕ, zero, suc, _+_, _-_, _*_, _/_, _%_, _^_, _≤_, _<_}
 use mathlib.Core.Path.{_≡_, refl, sym, ap, _∙_}
-use mathlib.Core.List.{List, [], _∷_, _++_}
-use mathlib.Core.Bool.{Bool, true, false, cond}
+use mathlib.Core.List.{List, [], _∷_}
+use mathlib.Core.Bool.{true, false, cond}
 use mathlib.Core.Logic.{⊎-elim, _⊎_, inl, inr}
 use lib.ListN.{length, getD, List·getD-eq-default}
 use native.Mathlib.Nat.{zero-div, pow-suc, mul-assoc, mul-comm, mul-div-left, mul-mod-left, div-add-mod', div-div-eq-div-mul}
 use lib.Dec.{ltb, leb, eqb}
 use native.Mathlib.Omega.{arith}
 use lib.Pow.{pow-pos, pow-add}
-use borrow.Author.Tests.{ltb-true, ltb-false, leb-true, leb-false, eqb-true, eqb-false}
+use borrow.Author.Tests.{ltb-false, leb-false, eqb-true, eqb-false}
 use Rattle.refusal.specs.Refusals.{badDer, trailingBitString}
 use Rattle.der.specs.declared.Span.{Span}
-use Rattle.der.specs.declared.Got.{Got}
 use Rattle.der.specs.declared.Got.the-variants.{Content, Refused as NoContent}
 use Rattle.der.specs.Places.{Bytes, part}
 use Rattle.der.specs.X690.{encoding, bit, BitString, NamedBits, keepOctet, trimmed}
@@ -21,7 +20,7 @@ use Rattle.bits.specs.Model.{wholeOctets, bitsAt, flagsIn, flagAt}
 use Rattle.der.proofs.Laws.{tests, value-expect, lt-or-le}
 use Rattle.der.proofs.Invert.{peel, either}
 use Rattle.der.proofs.Parts.{part-length, part-at, part-cons, part-none, part-tail}
-use Rattle.der.proofs.Laid.{Laid, expect-laid, Found, laid-read}
+use Rattle.der.proofs.Laid.{expect-laid, laid-read}
 use Rattle.values.proofs.SmallValues.{There, content-inv}
 
 no-got : {e : ℕ} {p : Span} → NoContent e ≡ Content p → ⊥

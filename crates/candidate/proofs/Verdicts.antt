@@ -14,15 +14,13 @@ use Rattle.parts.specs.Model.{sameParts}
 use Rattle.der.proofs.Invert.{peel}
 use Rattle.parts.proofs.Equal.{same-yes, same-equal}
 use Rattle.cert.specs.declared.Certificate.{Certificate}
-use Rattle.cert.specs.declared.Reading.{Reading}
-use Rattle.cert.specs.declared.Reading.the-variants.{Accepted, Refused as NoCertificate}
+use Rattle.cert.specs.declared.Reading.the-variants.{Accepted}
 use Rattle.cert.specs.Model.{readCertificate}
 use Rattle.extensions.proofs.Value.{part-whole}
 use Rattle.extensions.proofs.Inversion.{chosen}
 use Rattle.cert.proofs.Laws.{read-inside}
-use Rattle.rows.specs.declared.Outline.{Outline}
 use Rattle.rows.proofs.Laws.{on-outline}
-use Rattle.rows.specs.Model.{outlineOf, outlined, onOutline}
+use Rattle.rows.specs.Model.{outlined, onOutline}
 use Rattle.candidate.specs.declared.Verdict.the-variants.{Pass, Anchor, Extend}
 use Rattle.checks.specs.Conditions.{Contents}
 use Rattle.path.specs.Conditions.{Same}

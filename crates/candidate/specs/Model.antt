@@ -1,8 +1,8 @@
 -- What the code answers, as functions of the lent bytes and of what is known of each certificate, by number: the same tests in the same order.
 -- Each has an abbreviation for the case that what is known is what is read of the bytes. A path is a list of numbers, the newest first, the end
 -- entity last. Where a number is a refusal or none, 0 is none.
-use Prim.Native.Nat.{ℕ, suc, _-_}
-use mathlib.Core.List.{List, [], _∷_}
+use Prim.Native.Nat.{ℕ, suc}
+use mathlib.Core.List.{List, []}
 use mathlib.Core.Bool.{Bool, true, false, cond}
 use lib.ListN.{length, getD}
 use lib.Dec.{ltb, leb}

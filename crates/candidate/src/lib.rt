@@ -35,7 +35,7 @@ fn has_both(s: &[u8], subject: Span, key: Span, t: &[u8], outline: Outlined) -> 
 // Whether some certificate of the path, the end entity among them, has the subject and the key that stand in s.
 fn on_path<'a>(
     table: &[[usize; 37]],
-    issuers: &'a [&'a [u8]],
+    issuers: &[&'a [u8]],
     end: &'a [u8],
     anchors: usize,
     path: [usize; 7],
@@ -102,7 +102,7 @@ fn anchor_at(
 // The verdict on the certificate s, of which that much is known, as an issuer: for a path whose newest certificate has its issuer in `head`.
 fn issuer_verdict<'a>(
     table: &[[usize; 37]],
-    issuers: &'a [&'a [u8]],
+    issuers: &[&'a [u8]],
     end: &'a [u8],
     anchors: usize,
     path: [usize; 7],
@@ -141,7 +141,7 @@ fn issuer_verdict<'a>(
 // The verdict on candidate i for a path.
 pub fn verdict_on<'a>(
     table: &[[usize; 37]],
-    issuers: &'a [&'a [u8]],
+    issuers: &[&'a [u8]],
     end: &'a [u8],
     subjects: &[&[u8]],
     keys: &[&[u8]],

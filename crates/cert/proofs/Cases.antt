@@ -21,7 +21,7 @@ use Rattle.extensions.specs.declared.Known.{Known}
 use Rattle.extensions.specs.declared.Kept.the-variants.{All}
 use Rattle.extensions.specs.Model.{onKept, extensionsAt}
 use Rattle.envelope.specs.Model.{onParts, opened, begun, onBegun}
-use Rattle.cert.specs.Model.{fieldsAt, onFound, readCertificate, keyParts}
+use Rattle.cert.specs.Model.{fieldsAt, onFound, wholeOf, readCertificate, keyParts}
 
 module _ (s : List ℕ) where
   pub fields-case : (from to : ℕ) {p q r t : Span} → expectAt s from to 48 badDer ≡ Content p → expectAt s (p .end) to 48 badDer ≡ Content q → expectAt s (q .end) to 48 badDer ≡ Content r → expectAt s (r .end) to 48 badDer ≡ Content t
@@ -31,18 +31,7 @@ module _ (s : List ℕ) where
 
   pub read-case : (strict : Bool) {v : Envelope} {b : Beginning} {f : Fields} {known : Known} → opened s ≡ Parts v → begun s (v .content .start) (v .content .end) (v .algorithm) ≡ With b
       → fieldsAt s (b .algorithm .end) (v .content .end) ≡ AllFields f → extensionsAt s (f .key .end) (v .content .end) strict ≡ All known
-      → readCertificate s strict ≡ Accepted (record {
-        signed = v .signed;
-        algorithm = v .algorithm;
-        signature = v .signature;
-        serial = b .serial;
-        «inner_algorithm» = b .algorithm;
-        issuer = f .issuer;
-        validity = f .validity;
-        subject = f .subject;
-        key = f .key;
-        known = known;
-      })
+      → readCertificate s strict ≡ Accepted (wholeOf v b f known)
   unfolding readCertificate onParts onBegun onFound onKept
   read-case strict e f g h = simp (e, f, g, h)
 

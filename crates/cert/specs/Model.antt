@@ -7,6 +7,10 @@ use Rattle.refusal.specs.Refusals.{badDer, trailingSubjectPublicKeyInfo, unsupp
 use Rattle.der.specs.Model.{expectAt, onContent}
 use Rattle.bits.specs.Model.{bitsAt}
 use Rattle.extensions.specs.Model.{span, onKept, extensionsAt}
+use Rattle.extensions.specs.declared.Known.{Known}
+use Rattle.envelope.specs.declared.Envelope.{Envelope}
+use Rattle.envelope.specs.declared.Beginning.{Beginning}
+use Rattle.cert.specs.declared.Certificate.{Certificate}
 use Rattle.cert.specs.declared.Reading.{Reading}
 use Rattle.cert.specs.declared.Reading.the-variants.{Accepted, Refused}
 use Rattle.cert.specs.declared.Anchored.{Anchored}
@@ -32,13 +36,8 @@ unfoldable pub onFound : {R : Type 0} → Found → (ℕ → R) → (Fields → 
 onFound (AllFields p) other k = k p
 onFound (NotFound e) other k = other e
 
-unfoldable pub readCertificate : List ℕ → Bool → Reading
-readCertificate s strict =
-    onParts (opened s) Refused (λ p.
-    onBegun (begun s (p .content .start) (p .content .end) (p .algorithm)) Refused (λ q.
-    onFound (fieldsAt s (q .algorithm .end) (p .content .end)) Refused (λ f.
-    onKept (extensionsAt s (f .key .end) (p .content .end) strict) Refused (λ known.
-    Accepted (
+abbrev pub wholeOf : Envelope → Beginning → Fields → Known → Certificate
+wholeOf p q f known =
     record {
       signed = p .signed;
       algorithm = p .algorithm;
@@ -51,7 +50,14 @@ readCertificate s strict =
       key = f .key;
       known = known;
     }
-    )))))
+
+unfoldable pub readCertificate : List ℕ → Bool → Reading
+readCertificate s strict =
+    onParts (opened s) Refused (λ p.
+    onBegun (begun s (p .content .start) (p .content .end) (p .algorithm)) Refused (λ q.
+    onFound (fieldsAt s (q .algorithm .end) (p .content .end)) Refused (λ f.
+    onKept (extensionsAt s (f .key .end) (p .content .end) strict) Refused (λ known.
+    Accepted (wholeOf p q f known)))))
 
 -- of a trusted certificate
 unfoldable pub anchorOf : Reading → Anchored

@@ -1,13 +1,15 @@
 // One certificate: where each of its fields lies in its bytes, or why it is refused.
 use der::Got;
 use der::Span;
+use envelope::Beginning;
 use envelope::Begun;
+use envelope::Envelope;
 use envelope::Opened;
 use extensions::Kept;
 use extensions::Known;
 use extensions::Slot;
 ghost use mathlib.Core.Path.{_≡_};
-ghost use Rattle.cert.specs.Model.{fieldsAt, readCertificate, readAnchor};
+ghost use Rattle.cert.specs.Model.{fieldsAt, wholeOf, readCertificate, readAnchor};
 
 pub mod key;
 
@@ -80,6 +82,32 @@ fn fields_at(s: &[u8], from: usize, to: usize) -> Found
     })
 }
 
+fn whole(envelope: Envelope, beginning: Beginning, fields: Fields, known: Known) -> Certificate
+    ensures { λ r. ⌜ r ≡ wholeOf envelope beginning fields known ⌝ }
+{
+    let signed = envelope.signed;
+    let algorithm = envelope.algorithm;
+    let signature = envelope.signature;
+    let serial = beginning.serial;
+    let inner_algorithm = beginning.algorithm;
+    let issuer = fields.issuer;
+    let validity = fields.validity;
+    let subject = fields.subject;
+    let key = fields.key;
+    Certificate {
+        signed,
+        algorithm,
+        signature,
+        serial,
+        inner_algorithm,
+        issuer,
+        validity,
+        subject,
+        key,
+        known,
+    }
+}
+
 // The certificate that is all of s. A strict reader refuses an extension that it does not know and that is critical.
 pub fn read(s: &[u8], strict: bool) -> Reading
     ensures { λ r. ⌜ r ≡ readCertificate (now (s .entry)) strict ⌝ }
@@ -103,25 +131,7 @@ pub fn read(s: &[u8], strict: bool) -> Reading
         Kept::All(k) => k,
         Kept::Refused(e) => return Reading::Refused(e),
     };
-    let signed = envelope.signed;
-    let algorithm = envelope.algorithm;
-    let signature = envelope.signature;
-    let serial = beginning.serial;
-    let issuer = fields.issuer;
-    let validity = fields.validity;
-    let subject = fields.subject;
-    Reading::Accepted(Certificate {
-        signed,
-        algorithm,
-        signature,
-        serial,
-        inner_algorithm: inner,
-        issuer,
-        validity,
-        subject,
-        key,
-        known,
-    })
+    Reading::Accepted(whole(envelope, beginning, fields, known))
 }
 
 // Subject, key and name constraints of a certificate that is trusted. Versions before v3 are not read.

@@ -9,9 +9,11 @@ use lib.Dec.{ltb, leb, eqb}
 use native.Mathlib.Omega.{arith}
 use borrow.Author.Tests.{leb-false, eqb-true, eqb-false, ne-eqb, le-leb}
 use Rattle.der.proofs.Laws.{lt-or-le}
-use Rattle.labels.specs.Names.{dot, star, digit, letter, capital}
+use Rattle.texts.specs.Bytes.{dot}
+use Rattle.labels.specs.Names.{star, digit, letter, capital}
 use Rattle.dns.specs.Names.{small}
-use Rattle.labels.specs.Model.{begins, fromDot, whole, takeByte, onTaken, hostFrom, hostText, validPresented, validEntry}
+use Rattle.texts.specs.Model.{begins, fromDot}
+use Rattle.labels.specs.Model.{whole, takeByte, onTaken, hostFrom, hostText, validPresented, validEntry}
 use Rattle.dns.specs.Model.{tail, inSubtree}
 use Rattle.dns.proofs.Texts.{small-keeps}
 use Rattle.looks.proofs.Der.{at-most, test-then}

@@ -12,7 +12,8 @@ use Rattle.looks.specs.Der.{longLooks, firstLooks, lengthLooks, valueLooks, pai
 use Rattle.labels.specs.Names.{digit, letter, capital}
 use Rattle.dns.specs.Names.{small}
 use Rattle.dns.specs.Model.{standsFor, matchWanted, sameText, inSubtree, meetsSubtree, yesIf, matchExcluded}
-use Rattle.labels.specs.Model.{begins, relativeText, fromDot, whole, takeByte, onTaken, hostFrom, hostText, validStarred, validPresented, validWanted, validEntry}
+use Rattle.texts.specs.Model.{begins, relativeText, fromDot}
+use Rattle.labels.specs.Model.{whole, takeByte, onTaken, hostFrom, hostText, validStarred, validPresented, validWanted, validEntry}
 use Rattle.names.specs.General.{among, choices}
 use Rattle.ip.specs.Model.{neither, sameAddress, brokenMask, maskedByte}
 use Rattle.names.specs.Model.{isYes, fits, isWanted, isKind, ofKind, generalName}

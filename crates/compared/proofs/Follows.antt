@@ -12,10 +12,12 @@ use Rattle.der.specs.declared.Got.the-variants.{Content, Refused as NoContent}
 use Rattle.der.specs.Model.{onContent}
 use Rattle.der.specs.Places.{part}
 use Rattle.looks.specs.Der.{nothing, valueLooks}
-use Rattle.labels.specs.Names.{dot, hyphen, underscore, longestLabel, digit, letter}
+use Rattle.texts.specs.Bytes.{dot}
+use Rattle.labels.specs.Names.{hyphen, underscore, longestLabel, digit, letter}
 use Rattle.dns.specs.Names.{small}
 use Rattle.dns.specs.Model.{sameText}
-use Rattle.labels.specs.Model.{fromDot, whole, fresh, takeByte, onTaken, hostFrom, hostText}
+use Rattle.texts.specs.Model.{fromDot}
+use Rattle.labels.specs.Model.{whole, fresh, takeByte, onTaken, hostFrom, hostText}
 use Rattle.names.specs.declared.general.Name.{Name}
 use Rattle.names.specs.declared.general.Name.the-variants.{Found, Refused as NoName}
 use Rattle.names.specs.Model.{generalName, isWanted}

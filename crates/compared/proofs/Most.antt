@@ -10,8 +10,10 @@ use native.Mathlib.Omega.{arith}
 use borrow.Author.Tests.{lt-ltb, lt-leb, leb-true, eqb-true, ne-eqb}
 use Rattle.der.proofs.Laws.{lt-or-le}
 use Rattle.looks.proofs.Der.{at-most, test-then}
-use Rattle.labels.specs.Names.{Labels, dot, star, hyphen, digit, labelByte, every, lastOf, longer, labels, goodLabel, hostName}
-use Rattle.labels.specs.Model.{begins, fromDot, hostText, validStarred, validPresented, validEntry}
+use Rattle.texts.specs.Bytes.{dot}
+use Rattle.labels.specs.Names.{Labels, star, hyphen, digit, labelByte, every, lastOf, longer, labels, goodLabel, hostName}
+use Rattle.texts.specs.Model.{begins, fromDot}
+use Rattle.labels.specs.Model.{hostText, validStarred, validPresented, validEntry}
 use Rattle.dns.specs.Model.{tail, inSubtree}
 use Rattle.dns.proofs.Texts.{both}
 use Rattle.labels.proofs.Valid.{host-text}

@@ -14,8 +14,10 @@ use Rattle.der.proofs.Laws.{lt-or-le}
 use Rattle.der.proofs.Parts.{part-length}
 use Rattle.looks.specs.Der.{sameLooks, valueLooks}
 use Rattle.looks.proofs.Der.{at-most, value-few, test-then, walk-keeps}
-use Rattle.labels.specs.Names.{dot, star}
-use Rattle.labels.specs.Model.{begins, relativeText, fromDot, whole, takeByte, onTaken, hostFrom, hostText, validStarred, validPresented, validWanted}
+use Rattle.texts.specs.Bytes.{dot}
+use Rattle.labels.specs.Names.{star}
+use Rattle.texts.specs.Model.{begins, relativeText, fromDot}
+use Rattle.labels.specs.Model.{whole, takeByte, onTaken, hostFrom, hostText, validStarred, validPresented, validWanted}
 use Rattle.names.specs.General.{dnsName, ipAddress}
 use Rattle.ip.specs.Model.{neither}
 use Rattle.names.specs.Model.{generalName, isWanted}

@@ -1,12 +1,14 @@
--- How many elements of a slice are read for DNS names: the tests of `Model.antt` in `crates/labels/specs` and `crates/dns/specs` in the same order, and 1 for each `s[i]` that the code beside it comes to.
+-- How many elements of a slice are read for DNS names: the tests of `Model.antt` in `crates/texts/specs`, `crates/labels/specs` and `crates/dns/specs` in the same order, and 1 for each `s[i]` that the code beside it comes to.
 use Prim.Native.Nat.{ℕ, _+_, _-_}
 use mathlib.Core.List.{List, [], _∷_, _++_}
 use mathlib.Core.Bool.{Bool, true, cond}
 use lib.ListN.{length, getD, drop}
 use lib.Dec.{ltb, leb, eqb}
-use Rattle.labels.specs.Names.{dot, star, longestName}
+use Rattle.texts.specs.Bytes.{dot}
+use Rattle.labels.specs.Names.{star, longestName}
 use Rattle.dns.specs.Names.{small}
-use Rattle.labels.specs.Model.{begins, relativeText, fromDot, fresh, takeByte, onTaken, validPresented, validWanted, validEntry}
+use Rattle.texts.specs.Model.{begins, relativeText, fromDot}
+use Rattle.labels.specs.Model.{fresh, takeByte, onTaken, validPresented, validWanted, validEntry}
 use Rattle.dns.specs.Model.{tail, inSubtree}
 
 -- `begins`

@@ -1,6 +1,6 @@
 -- Every dialogue with a request decides, in the words of the conditions on bytes; and an accepted path meets RFC 5280's name constraints. Assumes that what
 -- is lent are bytes.
-use Prim.Native.Nat.{ℕ, suc, _≤_, _<_}
+use Prim.Native.Nat.{ℕ, suc, _≤_}
 use mathlib.Core.Path.{_≡_, refl, sym, _∙_, ap, subst}
 use mathlib.Core.Bool.{true, false}
 use mathlib.Core.List.{List, [], _∷_, _++_, map, List·Memᴰ}

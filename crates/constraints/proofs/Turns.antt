@@ -2,10 +2,8 @@
 use Prim.Native.Nat.{ℕ, _-_}
 use mathlib.Core.Path.{_≡_, refl, sym, ap, _∙_}
 use mathlib.Core.List.{List, map}
-use mathlib.Core.Bool.{true, false, cond}
+use mathlib.Core.Bool.{true, false}
 use lib.ListN.{getD}
-use lib.Dec.{eqb}
-use borrow.Author.Tests.{eq-eqb, ne-eqb}
 use Rattle.refusal.specs.Refusals.{badDer}
 use Rattle.cert.specs.declared.Certificate.{Certificate}
 use Rattle.cert.specs.declared.Reading.the-variants.{Accepted, Refused as NotRead}
@@ -15,9 +13,10 @@ use Rattle.entries.proofs.Spending.{at-once, refused-first, passed-first}
 use Rattle.subtrees.specs.declared.Subtrees.{Subtrees}
 use Rattle.subtrees.specs.declared.Lists.the-variants.{Are, Refused as NoLists}
 use Rattle.subtrees.specs.Noted.{Noted}
-use Rattle.constraints.specs.Paths.{lower, certAt, certsAt}
+use Rattle.lent.specs.Lent.{lower}
+use Rattle.constraints.specs.Paths.{certsAt}
 use Rattle.subtrees.specs.Model.{onRead, certificateAs, subtreesAt}
-use Rattle.constraints.specs.Model.{onLists, belowIn, constraintsIn, ownIn, issuersIn}
+use Rattle.constraints.specs.Model.{onLists, belowIn, leftOver, constraintsIn, ownIn, issuersIn}
 use Rattle.constraints.proofs.Laws.{lowest, higher, issuers-more, issuers-last}
 
 -- a check that refuses nothing, and nothing after it
@@ -27,42 +26,36 @@ passed-last left a x e z =
     f ∙ sym (at-once (x .left) 0) ∙ passed-first left a clean x e z
 
 -- ---- the certificates of a path from level k down
-module _ (s : List ℕ) (lists : Subtrees) (T I : List (List ℕ)) (end path : List ℕ) (k i left : ℕ) (one whole : Spent) (number : i ≡ getD path k 0)
-    (is : one ≡ spend left (certificateAs s lists (certAt T I end i))) (inv : spend left (belowIn s lists (certsAt T I end path k)) ≡ whole) where
-  here : one ≡ spend left (certificateAs s lists (certAt T I end (getD path k 0)))
-  here = is ∙ ap (λ (n : ℕ). spend left (certificateAs s lists (certAt T I end n))) number
+module _ (s : List ℕ) (lists : Subtrees) (cert : ℕ → Noted) (path : List ℕ) (k i left : ℕ) (one whole : Spent) (number : i ≡ getD path k 0)
+    (is : one ≡ spend left (certificateAs s lists (cert i))) (inv : spend left (belowIn s lists (certsAt cert path k)) ≡ whole) where
+  here : one ≡ spend left (certificateAs s lists (cert (getD path k 0)))
+  here = is ∙ ap (λ (n : ℕ). spend left (certificateAs s lists (cert n))) number
 
-  top-down : belowIn s lists (certsAt T I end path k) ≡ after (certificateAs s lists (certAt T I end (getD path k 0))) (belowIn s lists (map (certAt T I end) (lower path k)))
+  top-down : belowIn s lists (certsAt cert path k) ≡ after (certificateAs s lists (cert (getD path k 0))) (belowIn s lists (map cert (lower path k)))
   unfolding certsAt belowIn
   top-down = refl
 
   pub below-refuses : (one .refusal ≡ 0 → ⊥) → one ≡ whole
-  below-refuses n = refused-first left _ (belowIn s lists (map (certAt T I end) (lower path k))) one here n ∙ sym (ap (spend left) top-down) ∙ inv
+  below-refuses n = refused-first left _ (belowIn s lists (map cert (lower path k))) one here n ∙ sym (ap (spend left) top-down) ∙ inv
 
   pub below-ends : k ≡ 0 → one .refusal ≡ 0 → one ≡ whole
   unfolding belowIn
   below-ends k0 z =
-      let e : belowIn s lists (certsAt T I end path k) ≡ after (certificateAs s lists (certAt T I end (getD path k 0))) clean = rw (lowest T I end path k k0) in
+      let e : belowIn s lists (certsAt cert path k) ≡ after (certificateAs s lists (cert (getD path k 0))) clean = rw (lowest cert path k k0) in
       passed-last left _ one here z ∙ sym (ap (spend left) e) ∙ inv
 
-  pub below-goes : (k ≡ 0 → ⊥) → one .refusal ≡ 0 → spend (one .left) (belowIn s lists (certsAt T I end path (k - 1))) ≡ whole
+  pub below-goes : (k ≡ 0 → ⊥) → one .refusal ≡ 0 → spend (one .left) (belowIn s lists (certsAt cert path (k - 1))) ≡ whole
   unfolding belowIn
   below-goes n z =
-      let e : belowIn s lists (certsAt T I end path k) ≡ after (certificateAs s lists (certAt T I end (getD path k 0))) (belowIn s lists (certsAt T I end path (k - 1))) = rw (higher T I end path k n) in
-      passed-first left _ (belowIn s lists (certsAt T I end path (k - 1))) one here z ∙ sym (ap (spend left) e) ∙ inv
+      let e : belowIn s lists (certsAt cert path k) ≡ after (certificateAs s lists (cert (getD path k 0))) (belowIn s lists (certsAt cert path (k - 1))) = rw (higher cert path k n) in
+      passed-first left _ (belowIn s lists (certsAt cert path (k - 1))) one here z ∙ sym (ap (spend left) e) ∙ inv
 
 -- ---- one issuer's constraints
 module _ (s : List ℕ) (from to : ℕ) (cs : List Noted) where
   pub constraints-are : (lists : Subtrees) → subtreesAt s from to ≡ Are lists
-      → constraintsIn s from to cs ≡ after (belowIn s lists cs) (cond (eqb (lists .excluded .end) to) clean (tally 0 badDer))
+      → constraintsIn s from to cs ≡ after (belowIn s lists cs) (leftOver (lists .excluded .end) to)
   unfolding constraintsIn onLists
   constraints-are lists e = rw e
-
-  pub constraints-all : (lists : Subtrees) → subtreesAt s from to ≡ Are lists → lists .excluded .end ≡ to → constraintsIn s from to cs ≡ after (belowIn s lists cs) clean
-  constraints-all lists e h = constraints-are lists e ∙ rw (eq-eqb _ _ h)
-
-  pub constraints-more : (lists : Subtrees) → subtreesAt s from to ≡ Are lists → (lists .excluded .end ≡ to → ⊥) → constraintsIn s from to cs ≡ after (belowIn s lists cs) (tally 0 badDer)
-  constraints-more lists e h = constraints-are lists e ∙ rw (ne-eqb _ _ h)
 
   pub constraints-none : (e : ℕ) → subtreesAt s from to ≡ NoLists e → constraintsIn s from to cs ≡ tally 0 e
   unfolding constraintsIn onLists
@@ -83,16 +76,16 @@ module _ (t : Noted) (cs : List Noted) where
   own-unread e h = rw h
 
 -- ---- the issuers of a path from level k down
-module _ (T I : List (List ℕ)) (end path : List ℕ) (k i left : ℕ) (one whole : Spent) (number : i ≡ getD path k 0) (some : k ≡ 0 → ⊥)
-    (is : one ≡ spend left (ownIn (certAt T I end i) (certsAt T I end path (k - 1)))) (inv : spend left (issuersIn (certsAt T I end path k)) ≡ whole) where
-  this : one ≡ spend left (ownIn (certAt T I end (getD path k 0)) (certsAt T I end path (k - 1)))
-  this = is ∙ ap (λ (n : ℕ). spend left (ownIn (certAt T I end n) (certsAt T I end path (k - 1)))) number
+module _ (cert : ℕ → Noted) (path : List ℕ) (k i left : ℕ) (one whole : Spent) (number : i ≡ getD path k 0) (some : k ≡ 0 → ⊥)
+    (is : one ≡ spend left (ownIn (cert i) (certsAt cert path (k - 1)))) (inv : spend left (issuersIn (certsAt cert path k)) ≡ whole) where
+  this : one ≡ spend left (ownIn (cert (getD path k 0)) (certsAt cert path (k - 1)))
+  this = is ∙ ap (λ (n : ℕ). spend left (ownIn (cert n) (certsAt cert path (k - 1)))) number
 
   pub issuers-refuse : (one .refusal ≡ 0 → ⊥) → one ≡ whole
-  issuers-refuse n = refused-first left _ _ one this n ∙ sym (ap (spend left) (issuers-more T I end path k some)) ∙ inv
+  issuers-refuse n = refused-first left _ _ one this n ∙ sym (ap (spend left) (issuers-more cert path k some)) ∙ inv
 
-  pub issuers-go : one .refusal ≡ 0 → spend (one .left) (issuersIn (certsAt T I end path (k - 1))) ≡ whole
-  issuers-go z = passed-first left _ _ one this z ∙ sym (ap (spend left) (issuers-more T I end path k some)) ∙ inv
+  pub issuers-go : one .refusal ≡ 0 → spend (one .left) (issuersIn (certsAt cert path (k - 1))) ≡ whole
+  issuers-go z = passed-first left _ _ one this z ∙ sym (ap (spend left) (issuers-more cert path k some)) ∙ inv
 
-pub issuers-end : (T I : List (List ℕ)) (end path : List ℕ) (k left : ℕ) (whole : Spent) → k ≡ 0 → spend left (issuersIn (certsAt T I end path k)) ≡ whole → record { left = left; refusal = 0 } ≡ whole
-issuers-end T I end path k left whole z inv = sym (at-once left 0) ∙ sym (ap (spend left) (issuers-last T I end path k z)) ∙ inv
+pub issuers-end : (cert : ℕ → Noted) (path : List ℕ) (k left : ℕ) (whole : Spent) → k ≡ 0 → spend left (issuersIn (certsAt cert path k)) ≡ whole → record { left = left; refusal = 0 } ≡ whole
+issuers-end cert path k left whole z inv = sym (at-once left 0) ∙ sym (ap (spend left) (issuers-last cert path k z)) ∙ inv

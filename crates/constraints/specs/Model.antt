@@ -25,10 +25,14 @@ unfoldable pub onLists : {R : Type 0} → Lists → (ℕ → R) → (Subtrees �
 onLists (Are lists) other k = k lists
 onLists (NoLists e) other k = other e
 
+-- nothing may be left over after the lists
+abbrev pub leftOver : ℕ → ℕ → Tally
+leftOver end to = cond (eqb end to) clean (tally 0 badDer)
+
 unfoldable pub constraintsIn : List ℕ → ℕ → ℕ → List Noted → Tally
 constraintsIn s from to cs =
     onLists (subtreesAt s from to) (tally 0) (λ lists.
-    after (belowIn s lists cs) (cond (eqb (lists .excluded .end) to) clean (tally 0 badDer)))
+    after (belowIn s lists cs) (leftOver (lists .excluded .end) to))
 
 abbrev pub constraints : List ℕ → ℕ → ℕ → List (List ℕ) → Tally
 constraints s from to cs = constraintsIn s from to (map lent cs)

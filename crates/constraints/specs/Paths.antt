@@ -1,28 +1,17 @@
 -- A path by the numbers of its certificates, as a list of their bytes and of what is known of each.
-use Prim.Native.Nat.{ℕ, zero, suc}
-use mathlib.Core.List.{List, [], _∷_, map}
-use mathlib.Core.Bool.{cond}
-use lib.ListN.{length, getD}
-use lib.Dec.{ltb}
-use Rattle.table.specs.Model.{readingIn}
+use Prim.Native.Nat.{ℕ}
+use mathlib.Core.List.{List, map}
+use Rattle.cert.specs.declared.Reading.{Reading}
+use Rattle.lent.specs.Lent.{certificateOf, readingsIn, pre}
 use Rattle.subtrees.specs.Noted.{Noted, noted}
 
--- the numbers below level d, the highest first, and those up to it
-unfoldable pub lower : List ℕ → ℕ → List ℕ
-lower path zero = []
-lower path (suc d) = getD path d 0 ∷ lower path d
+-- the certificate with a number, and what is known of it; the same by a table of readings
+abbrev pub notedOf : (ℕ → Reading) → List (List ℕ) → List ℕ → ℕ → ℕ → Noted
+notedOf known issuers end anchors n = noted (certificateOf issuers end anchors n) (known n)
 
-abbrev pub upTo : List ℕ → ℕ → List ℕ
-upTo path d = getD path d 0 ∷ lower path d
-
--- the row of a number in a table of readings: the intermediates' come first, the end entity's after them
-unfoldable pub rowOf : ℕ → ℕ → ℕ
-rowOf count i = cond (ltb i count) i count
-
--- the certificate of a number, by such a table: an intermediate, or from their end on the end entity
-unfoldable pub certAt : List (List ℕ) → List (List ℕ) → List ℕ → ℕ → Noted
-certAt table issuers end i = noted (getD issuers i end) (readingIn table (rowOf (length issuers) i) (getD issuers i end))
+abbrev pub certAt : List (List ℕ) → List (List ℕ) → List ℕ → ℕ → ℕ → Noted
+certAt table issuers end anchors n = notedOf (readingsIn table issuers end anchors) issuers end anchors n
 
 -- the certificates up to level d, the highest first and the end entity last
-unfoldable pub certsAt : List (List ℕ) → List (List ℕ) → List ℕ → List ℕ → ℕ → List Noted
-certsAt table issuers end path d = map (certAt table issuers end) (upTo path d)
+unfoldable pub certsAt : (ℕ → Noted) → List ℕ → ℕ → List Noted
+certsAt cert path d = map cert (pre path d)

@@ -6,57 +6,50 @@ use subtrees::Lists;
 use subtrees::Subtrees;
 ghost use mathlib.Core.Path.{_≡_};
 ghost use mathlib.Core.List.{map};
-ghost use lib.ListN.{getD};
-ghost use Rattle.entries.specs.Tally.{spend};
+ghost use Prim.Native.Nat.{ℕ};
+ghost use Rattle.entries.specs.Tally.{Tally, after, spend};
 ghost use Rattle.subtrees.specs.Noted.{noted};
 ghost use Rattle.constraints.specs.Paths.{certAt, certsAt};
 ghost use Rattle.subtrees.specs.Model.{certificateAs};
-ghost use Rattle.constraints.specs.Model.{belowIn, constraintsIn, ownIn, anchoredIn, pathConstraintsIn};
+ghost use Rattle.constraints.specs.Model.{belowIn, leftOver, constraintsIn, ownIn, anchoredIn, pathConstraintsIn};
 
-// The number at a place of a path; beyond its end 0.
-fn number_at(path: [usize; 7], i: usize) -> usize
-    ensures { λ r. ⌜ r ≡ getD path i 0 ⌝ }
-{
-    if i < 7 { path[i] } else { 0 }
-}
-
-// The certificate of a number: an intermediate, or from their end on the end entity.
-fn numbered(
+// The lists against the names of the certificate with a number.
+fn numbered<'a>(
     table: &[[usize; 37]],
     s: &[u8],
     lists: Subtrees,
-    issuers: &[&[u8]],
-    end: &[u8],
-    i: usize,
+    issuers: &[&'a [u8]],
+    end: &'a [u8],
+    anchors: usize,
+    n: usize,
     left: u64,
 ) -> Spent
-    ensures { λ r. ⌜ r ≡ spend left (certificateAs (now (s .entry)) lists (certAt (now (table .entry)) (map now (now (issuers .entry))) (now (end .entry)) i)) ⌝ }
+    ensures { λ r. ⌜ r ≡ spend left (certificateAs (now (s .entry)) lists (certAt (now (table .entry)) (map now (now (issuers .entry))) (now (end .entry)) anchors n)) ⌝ }
 {
-    if i < issuers.len() {
-        let t = issuers[i];
-        return subtrees::certificate(s, lists, t, table::reading(table, i, t), left);
-    }
-    let known = table::reading(table, issuers.len(), end);
-    subtrees::certificate(s, lists, end, known, left)
+    let t = lent::certificate(issuers, end, anchors, n);
+    let known = lent::reading(table, issuers, end, anchors, n);
+    subtrees::certificate(s, lists, t, known, left)
 }
 
 // The certificates of a path from the one at `level` down to the end entity.
-fn below(
+fn below<'a>(
     table: &[[usize; 37]],
     s: &[u8],
     lists: Subtrees,
-    issuers: &[&[u8]],
-    end: &[u8],
+    issuers: &[&'a [u8]],
+    end: &'a [u8],
+    anchors: usize,
     path: [usize; 7],
     level: usize,
     left: u64,
 ) -> Spent
-    ensures { λ r. ⌜ r ≡ spend left (belowIn (now (s .entry)) lists (certsAt (now (table .entry)) (map now (now (issuers .entry))) (now (end .entry)) path level)) ⌝ }
+    ensures { λ r. ⌜ r ≡ spend left (belowIn (now (s .entry)) lists (certsAt (certAt (now (table .entry)) (map now (now (issuers .entry))) (now (end .entry)) anchors) path level)) ⌝ }
 {
     let mut k = level;
     let mut rest = left;
     loop {
-        let one = numbered(table, s, lists, issuers, end, number_at(path, k), rest);
+        let n = lent::number_at(path, k);
+        let one = numbered(table, s, lists, issuers, end, anchors, n, rest);
         if one.refusal != 0 {
             return one;
         }
@@ -68,52 +61,60 @@ fn below(
     }
 }
 
-// The name constraints whose content stands between the places, against the certificates from `level` down. What is left over after
-// the lists is noticed last.
-fn constrain(
+// What is left over after the lists is noticed last.
+fn ended(all: Spent, after_lists: usize, to: usize) -> Spent
+    ensures { λ r. ⌜ ((left : ℕ) (t : Tally) → all ≡ spend left t → r ≡ spend left (after t (leftOver «after_lists» to))) ⌝ }
+{
+    if all.refusal != 0 {
+        return all;
+    }
+    if after_lists == to {
+        return all;
+    }
+    Spent {
+        left: all.left,
+        refusal: refusal::BAD_DER,
+    }
+}
+
+// The name constraints whose content stands between the places, against the certificates from `level` down.
+fn constrain<'a>(
     table: &[[usize; 37]],
     s: &[u8],
     from: usize,
     to: usize,
-    issuers: &[&[u8]],
-    end: &[u8],
+    issuers: &[&'a [u8]],
+    end: &'a [u8],
+    anchors: usize,
     path: [usize; 7],
     level: usize,
     left: u64,
 ) -> Spent
-    ensures { λ r. ⌜ r ≡ spend left (constraintsIn (now (s .entry)) from to (certsAt (now (table .entry)) (map now (now (issuers .entry))) (now (end .entry)) path level)) ⌝ }
+    ensures { λ r. ⌜ r ≡ spend left (constraintsIn (now (s .entry)) from to (certsAt (certAt (now (table .entry)) (map now (now (issuers .entry))) (now (end .entry)) anchors) path level)) ⌝ }
 {
     match subtrees::subtrees_at(s, from, to) {
         Lists::Are(lists) => {
-            let all = below(table, s, lists, issuers, end, path, level, left);
-            if all.refusal != 0 {
-                return all;
-            }
             let excluded = lists.excluded;
-            if excluded.end == to {
-                return all;
-            }
-            Spent {
-                left: all.left,
-                refusal: refusal::BAD_DER,
-            }
+            let all = below(table, s, lists, issuers, end, anchors, path, level, left);
+            ended(all, excluded.end, to)
         }
         Lists::Refused(e) => Spent { left, refusal: e },
     }
 }
 
 // The own constraints of the certificate t, of which that much is known, if it has any, against the certificates from `level` down.
-fn own(
+fn own<'a>(
     table: &[[usize; 37]],
     t: &[u8],
     reading: Reading,
-    issuers: &[&[u8]],
-    end: &[u8],
+    issuers: &[&'a [u8]],
+    end: &'a [u8],
+    anchors: usize,
     path: [usize; 7],
     level: usize,
     left: u64,
 ) -> Spent
-    ensures { λ r. ⌜ r ≡ spend left (ownIn (noted (now (t .entry)) reading) (certsAt (now (table .entry)) (map now (now (issuers .entry))) (now (end .entry)) path level)) ⌝ }
+    ensures { λ r. ⌜ r ≡ spend left (ownIn (noted (now (t .entry)) reading) (certsAt (certAt (now (table .entry)) (map now (now (issuers .entry))) (now (end .entry)) anchors) path level)) ⌝ }
 {
     match reading {
         Reading::Accepted(c) => {
@@ -127,6 +128,7 @@ fn own(
                     held.end,
                     issuers,
                     end,
+                    anchors,
                     path,
                     level,
                     left,
@@ -141,39 +143,37 @@ fn own(
     }
 }
 
-// The same of the certificate number i.
-fn issuer(
+// The same of the certificate with a number.
+fn issuer<'a>(
     table: &[[usize; 37]],
-    issuers: &[&[u8]],
-    end: &[u8],
-    i: usize,
+    issuers: &[&'a [u8]],
+    end: &'a [u8],
+    anchors: usize,
+    n: usize,
     path: [usize; 7],
     level: usize,
     left: u64,
 ) -> Spent
-    ensures { λ r. ⌜ r ≡ spend left (ownIn (certAt (now (table .entry)) (map now (now (issuers .entry))) (now (end .entry)) i) (certsAt (now (table .entry)) (map now (now (issuers .entry))) (now (end .entry)) path level)) ⌝ }
+    ensures { λ r. ⌜ r ≡ spend left (ownIn (certAt (now (table .entry)) (map now (now (issuers .entry))) (now (end .entry)) anchors n) (certsAt (certAt (now (table .entry)) (map now (now (issuers .entry))) (now (end .entry)) anchors) path level)) ⌝ }
 {
-    if i < issuers.len() {
-        let t = issuers[i];
-        let known = table::reading(table, i, t);
-        return own(table, t, known, issuers, end, path, level, left);
-    }
-    let known = table::reading(table, issuers.len(), end);
-    own(table, end, known, issuers, end, path, level, left)
+    let t = lent::certificate(issuers, end, anchors, n);
+    let known = lent::reading(table, issuers, end, anchors, n);
+    own(table, t, known, issuers, end, anchors, path, level, left)
 }
 
 // The constraints of the anchor, if it has any, against the certificates from `level` down.
-fn anchored(
+fn anchored<'a>(
     table: &[[usize; 37]],
-    issuers: &[&[u8]],
-    end: &[u8],
+    issuers: &[&'a [u8]],
+    end: &'a [u8],
+    anchors: usize,
     path: [usize; 7],
     level: usize,
     anchor: &[u8],
     bound: bool,
     left: u64,
 ) -> Spent
-    ensures { λ r. ⌜ r ≡ spend left (anchoredIn (now (anchor .entry)) bound (certsAt (now (table .entry)) (map now (now (issuers .entry))) (now (end .entry)) path level)) ⌝ }
+    ensures { λ r. ⌜ r ≡ spend left (anchoredIn (now (anchor .entry)) bound (certsAt (certAt (now (table .entry)) (map now (now (issuers .entry))) (now (end .entry)) anchors) path level)) ⌝ }
 {
     if bound {
         return constrain(
@@ -183,6 +183,7 @@ fn anchored(
             anchor.len(),
             issuers,
             end,
+            anchors,
             path,
             level,
             left,
@@ -192,30 +193,40 @@ fn anchored(
 }
 
 // The name constraints of a path under an anchor, whose own are in `anchor` if it is `bound`. path[0] is the end entity's number and
-// path[depth] that of the highest certificate; a number stands for that intermediate, or from their end on for the end entity.
-// What is known of them is in the table: the intermediates have a row each, in their order, and the end entity has the one after them.
-pub fn path_constraints(
+// path[depth] that of the highest certificate. The numbers are those of crate `lent`: `anchors` says how many come before the intermediates.
+pub fn path_constraints<'a>(
     table: &[[usize; 37]],
-    issuers: &[&[u8]],
-    end: &[u8],
+    issuers: &[&'a [u8]],
+    end: &'a [u8],
+    anchors: usize,
     path: [usize; 7],
     depth: usize,
     anchor: &[u8],
     bound: bool,
     left: u64,
 ) -> Spent
-    ensures { λ r. ⌜ r ≡ spend left (pathConstraintsIn (now (anchor .entry)) bound (certsAt (now (table .entry)) (map now (now (issuers .entry))) (now (end .entry)) path depth)) ⌝ }
+    ensures { λ r. ⌜ r ≡ spend left (pathConstraintsIn (now (anchor .entry)) bound (certsAt (certAt (now (table .entry)) (map now (now (issuers .entry))) (now (end .entry)) anchors) path depth)) ⌝ }
 {
-    let first = anchored(table, issuers, end, path, depth, anchor, bound, left);
+    let first = anchored(
+        table,
+        issuers,
+        end,
+        anchors,
+        path,
+        depth,
+        anchor,
+        bound,
+        left,
+    );
     if first.refusal != 0 {
         return first;
     }
     let mut k = depth;
     let mut rest = first.left;
     while 0 < k {
-        let i = number_at(path, k);
+        let n = lent::number_at(path, k);
         k -= 1;
-        let one = issuer(table, issuers, end, i, path, k, rest);
+        let one = issuer(table, issuers, end, anchors, n, path, k, rest);
         if one.refusal != 0 {
             return one;
         }

@@ -74,6 +74,7 @@ fn check<'a>(
         &table,
         &issuers,
         end,
+        0,
         path,
         depth,
         anchor,

@@ -1,22 +1,20 @@
 -- Every encoding of a tag and a content that the limit allows is accepted. Assumes nothing.
-use Prim.Native.Nat.{ℕ, zero, suc, _+_, _-_, _*_, _/_, _%_, _^_, _≤_, _<_}
+use Prim.Native.Nat.{ℕ, zero, suc, _+_, _-_, _/_, _%_, _^_, _≤_, _<_}
 use mathlib.Core.Path.{_≡_, refl, sym, ap, _∙_}
 use mathlib.Core.List.{List, [], _∷_, _++_}
-use mathlib.Core.Logic.{⊎-elim, _⊎_, inl, inr}
-use mathlib.Core.Bool.{true, false}
+use mathlib.Core.Logic.{⊎-elim}
+use mathlib.Core.Bool.{false}
 use lib.ListN.{length, getD, length-append}
 use native.Mathlib.Omega.{arith}
 use native.Mathlib.Nat.{pow-suc}
-use native.Mathlib.Numerals.{add-one}
-use lib.Seq.{take-append-seam}
 use borrow.Author.Tests.{lt-ltb, le-ltb}
-use Rattle.der.specs.declared.Length.the-variants.{Is, Bad}
-use Rattle.der.specs.declared.Read.the-variants.{Value, Refused}
+use Rattle.der.specs.declared.Length.the-variants.{Is}
+use Rattle.der.specs.declared.Read.the-variants.{Value}
 use Rattle.der.specs.Model.{highTag, numberAt, least, longForm, byFirst, readLength, readLimited}
 use Rattle.der.specs.X690.{bigEndian, octetsOf, lengthBytes, encoding}
-use Rattle.der.specs.Places.{part, Bytes}
+use Rattle.der.specs.Places.{part}
 use Rattle.der.proofs.Laws.{tests, limited-value, lt-or-le}
-use Rattle.der.proofs.Parts.{append-inv, part-length, part-split, part-more, part-cons, part-none}
+use Rattle.der.proofs.Parts.{append-inv, part-length, part-split, part-more, part-cons}
 
 -- a last element
 snoc-inv : (xs ys : List ℕ) (x y : ℕ) → length xs ≡ length ys → xs ++ (x ∷ []) ≡ ys ++ (y ∷ []) → (xs ≡ ys) × (x ≡ y)

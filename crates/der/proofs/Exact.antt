@@ -1,11 +1,10 @@
 -- THEOREMS: the reader of lengths and values accepts exactly the encodings of X.690, each with its places. Assumes nothing.
 use Prim.Native.Nat.{ℕ, _+_, _-_, _%_, _^_, _≤_, _<_}
-use mathlib.Core.Path.{_≡_, refl, sym, ap, _∙_}
+use mathlib.Core.Path.{_≡_, sym, ap, _∙_}
 use mathlib.Core.List.{List}
-use mathlib.Core.Bool.{Bool, true, false}
+use mathlib.Core.Bool.{false}
 use mathlib.Core.Logic.{⊎-elim}
 use lib.ListN.{length}
-use lib.Dec.{eqb}
 use native.Mathlib.Omega.{arith}
 use native.Mathlib.Nat.{pow-le-pow-right}
 use lib.Dec.{lit<}
@@ -16,7 +15,7 @@ use Rattle.der.specs.Places.{Bytes, part}
 use Rattle.der.specs.X690.{OneOctet, Minimal, lengthBytes, encoding}
 use Rattle.der.specs.Model.{highTag, readLength, readLimited}
 use Rattle.der.proofs.Laws.{number-below}
-use Rattle.der.proofs.Parts.{part-length, part-front, part-tail}
+use Rattle.der.proofs.Parts.{part-length}
 use Rattle.der.proofs.Invert.{length-inv, length-next, value-inv}
 use Rattle.der.proofs.Sound.{length-sound, value-sound}
 use Rattle.der.proofs.Complete.{length-complete, value-complete}

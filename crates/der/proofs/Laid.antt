@@ -1,19 +1,17 @@
 -- A value that was read and its encoding, both ways: what a reader of structures goes by. Assumes nothing.
-use Prim.Native.Nat.{ℕ, suc, _+_, _-_, _^_, _≤_, _<_}
+use Prim.Native.Nat.{ℕ, _+_, _-_, _≤_, _<_}
 use mathlib.Core.Path.{_≡_, refl, sym, ap, _∙_}
-use mathlib.Core.List.{List, [], _∷_, _++_}
-use mathlib.Core.Bool.{Bool, true, false}
-use mathlib.Core.Logic.{⊎-elim, _⊎_, inl, inr}
+use mathlib.Core.List.{List, _++_}
+use mathlib.Core.Bool.{false}
 use lib.ListN.{length, length-append}
 use native.Mathlib.Omega.{arith}
 use Rattle.der.specs.declared.Read.the-variants.{Value}
 use Rattle.der.specs.declared.Span.{Span}
-use Rattle.der.specs.declared.Got.{Got}
-use Rattle.der.specs.declared.Got.the-variants.{Content, Refused as NoContent}
+use Rattle.der.specs.declared.Got.the-variants.{Content}
 use Rattle.der.specs.Places.{Bytes, part}
 use Rattle.der.specs.X690.{lengthBytes, encoding}
-use Rattle.der.specs.Model.{LIMIT, highTag, readValue, expectAt, onContent}
-use Rattle.der.proofs.Laws.{expect-value, value-expect, lt-or-le}
+use Rattle.der.specs.Model.{LIMIT, highTag, readValue, expectAt}
+use Rattle.der.proofs.Laws.{expect-value}
 use Rattle.der.proofs.Parts.{part-length, part-front, part-tail}
 use Rattle.der.proofs.Theorems.{value-places, value-low, accepted-is-encoded, encoded-is-accepted}
 

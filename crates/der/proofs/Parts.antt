@@ -1,9 +1,9 @@
 -- Laws of `part`, the bytes between two places. Assumes nothing.
-use Prim.Native.Nat.{ℕ, zero, suc, _+_, _-_, _≤_, _<_}
+use Prim.Native.Nat.{ℕ, suc, _+_, _-_, _≤_, _<_}
 use mathlib.Core.Path.{_≡_, refl, sym, ap, _∙_}
 use mathlib.Core.List.{List, [], _∷_, _++_}
-use lib.ListN.{length, getD, take, drop, length-take, length-drop, length-append}
-use lib.Seq.{take-add, drop-drop, take-suc, getD-take, getD-drop, drop-cons, ext-getD}
+use lib.ListN.{length, getD, drop, length-take, length-drop, length-append}
+use lib.Seq.{take-add, drop-drop, take-suc, getD-take, getD-drop, drop-cons}
 use native.Mathlib.Omega.{arith}
 use native.Mathlib.Numerals.{add-one}
 use Rattle.der.specs.Places.{part}

@@ -1,19 +1,19 @@
 -- What the reader accepts is an encoding. Assumes nothing.
 use Prim.Native.Nat.{ℕ, zero, suc, _+_, _-_, _*_, _/_, _%_, _^_, _≤_, _<_}
-use mathlib.Core.Path.{_≡_, refl, sym, ap, _∙_}
-use mathlib.Core.List.{List, [], _∷_, _++_}
+use mathlib.Core.Path.{_≡_, sym}
+use mathlib.Core.List.{List}
 use mathlib.Core.Logic.{⊎-elim}
 use lib.ListN.{length, getD}
 use native.Mathlib.Omega.{arith}
 use borrow.Author.Tests.{lt-ltb, le-ltb}
-use Rattle.der.specs.declared.Length.the-variants.{Is, Bad}
-use Rattle.der.specs.declared.Read.the-variants.{Value, Refused}
+use Rattle.der.specs.declared.Length.the-variants.{Is}
+use Rattle.der.specs.declared.Read.the-variants.{Value}
 use Rattle.der.specs.Model.{numberAt, least, readLength, readLimited}
 use Rattle.der.specs.X690.{bigEndian, octetsOf, lengthBytes, encoding}
 use Rattle.der.specs.Places.{part, Bytes}
 use Rattle.der.proofs.Laws.{number-below}
 use Rattle.der.proofs.Parts.{part-length, part-split, part-more, part-cons, part-none}
-use Rattle.der.proofs.Invert.{Short, Long, LengthAt, length-inv, ValueAt, value-inv}
+use Rattle.der.proofs.Invert.{length-inv, value-inv}
 
 -- the bytes that a number was read from are its encoding
 pub number-bytes : (s : List ℕ) → Bytes s → (at k : ℕ) → at + k ≤ length s → bigEndian k (numberAt s at k) ≡ part s at (at + k)

@@ -1,12 +1,12 @@
 -- The reader accepts exactly the encodings, and no two lists of bytes encode the same. Assumes nothing.
-use Prim.Native.Nat.{ℕ, _+_, _-_, _^_, _≤_, _<_}
+use Prim.Native.Nat.{ℕ, _+_, _-_, _≤_, _<_}
 use mathlib.Core.Path.{_≡_, sym, ap, _∙_}
 use mathlib.Core.List.{List}
 use mathlib.Core.Bool.{false}
 use lib.ListN.{length}
 use native.Mathlib.Omega.{arith}
 use Rattle.der.specs.declared.Read.the-variants.{Value}
-use Rattle.der.specs.Model.{highTag, readLimited, readValue}
+use Rattle.der.specs.Model.{highTag, readValue}
 use Rattle.der.specs.X690.{lengthBytes, encoding}
 use Rattle.der.specs.Places.{part, Bytes}
 use Rattle.der.proofs.Invert.{value-inv}

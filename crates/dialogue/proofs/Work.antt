@@ -64,7 +64,7 @@ paidAt w (at q i extension ∷ ps) zero = w (at q i extension)
 paidAt w (at q i extension ∷ ps) (suc b) = w (at q i extension) + paidAt w ps b
 
 -- where each event weighs 1 the place is nothing to it
-paid-placed : (ps : List Placed) (b : ℕ) → paid (λ ev. 1) (map eventOf ps) b ≡ paidAt (λ p. 1) ps b
+paid-placed : (ps : List Placed) (b : ℕ) → paid (map eventOf ps) b ≡ paidAt (λ p. 1) ps b
 unfolding paid paidAt eventOf
 paid-placed [] b = refl
 paid-placed (at q i (note x) ∷ ps) b = omega (arith, paid-placed ps b)
@@ -202,9 +202,9 @@ counted W = record {
 }
 
 -- the events up to the extension that is one too many, whatever is answered: what a machine that takes one of them a move can use as its measure
-pub all-events : (W : World) (end b : ℕ) → paid (λ ev. 1) (events W end) b ≤ suc (W .candidates) * suc b
+pub all-events : (W : World) (end b : ℕ) → paid (events W end) b ≤ suc (W .candidates) * suc b
 all-events W end b =
-    omega (arith, ap (λ (es : List Event). paid (λ ev. 1) es b) (placed-events W end), paid-placed (placed W end) b, events-within W (λ p. 1) (λ d i. 1) (λ d. suc (W .candidates)) (counted W) end b, entered-alike (suc (W .candidates)) 0 (suc b))
+    omega (arith, ap (λ (es : List Event). paid es b) (placed-events W end), paid-placed (placed W end) b, events-within W (λ p. 1) (λ d i. 1) (λ d. suc (W .candidates)) (counted W) end b, entered-alike (suc (W .candidates)) 0 (suc b))
 
 -- ---- one share for each anchor and one for each intermediate
 abbrev shareOf : ℕ → ℕ → ℕ → ℕ → ℕ

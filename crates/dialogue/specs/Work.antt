@@ -13,14 +13,14 @@ use Rattle.dialogue.specs.Model.{Path, World, Event, note, extension, tr
 
 -- ---- the measure of a machine that takes one event a move
 
--- what the events weigh up to the extension that is one too many, where b are allowed
-unfoldable pub paid : (Event → ℕ) → List Event → ℕ → ℕ
-paid w [] b = 0
-paid w (note x ∷ es) b = w (note x) + paid w es b
-paid w (try k p ∷ es) b = w (try k p) + paid w es b
-paid w (leave ∷ es) b = w leave + paid w es b
-paid w (extension ∷ es) zero = w extension
-paid w (extension ∷ es) (suc b) = w extension + paid w es b
+-- how many events there are up to the extension that is one too many, where b are allowed
+unfoldable pub paid : List Event → ℕ → ℕ
+paid [] b = 0
+paid (note x ∷ es) b = 1 + paid es b
+paid (try k p ∷ es) b = 1 + paid es b
+paid (leave ∷ es) b = 1 + paid es b
+paid (extension ∷ es) zero = 1
+paid (extension ∷ es) (suc b) = 1 + paid es b
 
 -- ---- the events in their places
 

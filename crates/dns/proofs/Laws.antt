@@ -7,12 +7,12 @@ use lib.ListN.{length, getD, take, drop}
 use lib.Dec.{eqb}
 use native.Mathlib.Omega.{arith}
 use borrow.Author.Tests.{eq-eqb, ne-eqb}
-use Rattle.labels.proofs.Laws.{rest-all, at-place, past-end}
+use Rattle.texts.proofs.Laws.{rest-all, at-place, past-end}
 use Rattle.dns.specs.declared.Answer.the-variants.{Yes, No, Refused}
 use Rattle.der.proofs.Laws.{tests}
-use Rattle.labels.specs.Names.{dot}
+use Rattle.texts.specs.Bytes.{dot}
 use Rattle.dns.specs.Names.{small}
-use Rattle.labels.specs.Model.{begins}
+use Rattle.texts.specs.Model.{begins}
 use Rattle.dns.specs.Model.{sameText, tail, inSubtree}
 
 -- ---- no two answers are one

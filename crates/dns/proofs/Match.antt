@@ -12,11 +12,13 @@ use Rattle.refusal.specs.Refusals.{malformedDnsIdentifier, malformedNameConstra
 use Rattle.der.proofs.Invert.{peel, either}
 use Rattle.dns.specs.declared.Answer.{Answer}
 use Rattle.dns.specs.declared.Answer.the-variants.{Yes, No, Refused}
-use Rattle.labels.specs.Names.{Labels, dot, capital, digit, letter, labelByte, every, lastOf, none, labels, goodLabel, hostName, relative, starred, wantedName, presentedName, entryName}
+use Rattle.texts.specs.Bytes.{dot}
+use Rattle.labels.specs.Names.{Labels, capital, digit, letter, labelByte, every, lastOf, none, labels, goodLabel, hostName, relative, starred, wantedName, presentedName, entryName}
 use Rattle.dns.specs.Names.{small, lowered, Same, Starred, StandsFor, Within, Below, InSubtree, AllIn, SomeIn}
 use Rattle.dns.specs.Stricter.{Stricter}
 use Rattle.dns.specs.Answers.{Decides}
-use Rattle.labels.specs.Model.{begins, fromDot, relativeText, validPresented, validWanted}
+use Rattle.texts.specs.Model.{begins, fromDot, relativeText}
+use Rattle.labels.specs.Model.{validPresented, validWanted}
 use Rattle.dns.specs.Model.{sameText, standsFor, inSubtree, meetsSubtree, yesIf, matchWanted, matchPermitted, matchExcluded}
 use Rattle.dns.proofs.Laws.{yes-no, yes-refused, no-refused}
 use Rattle.labels.proofs.Labels.{labels-nil, true-false, cut, labels-dot, cut-more}

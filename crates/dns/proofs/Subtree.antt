@@ -3,16 +3,17 @@ use Prim.Native.Nat.{ℕ, suc, _+_, _-_, _≤_, _<_}
 use mathlib.Core.Path.{_≡_, refl, sym, ap, _∙_}
 use mathlib.Core.List.{List, [], _∷_, _++_, map, append-nil, map-append}
 use mathlib.Core.Bool.{Bool, true, false}
-use mathlib.Core.Logic.{_⊎_, ⊎-elim}
+use mathlib.Core.Logic.{⊎-elim}
 use lib.ListN.{length, getD, take, drop, take-append-drop, length-append, length-map}
 use lib.Seq.{split-at, drop-append-seam, drop-append-add, getD-append-seam}
 use lib.Dec.{eqb}
 use native.Mathlib.Omega.{arith}
 use borrow.Author.Tests.{eq-eqb, ne-eqb, eqb-true, lt-leb, le-leb}
 use Rattle.der.proofs.Laws.{lt-or-le}
-use Rattle.labels.specs.Names.{Labels, dot, capital, labels}
+use Rattle.texts.specs.Bytes.{dot}
+use Rattle.labels.specs.Names.{Labels, capital, labels}
 use Rattle.dns.specs.Names.{small, lowered, Within, Below, InSubtree}
-use Rattle.labels.specs.Model.{begins}
+use Rattle.texts.specs.Model.{begins}
 use Rattle.dns.specs.Model.{sameText, tail, inSubtree}
 use Rattle.labels.proofs.Labels.{true-false, cut, labels-dot, cut-more, labels-append}
 use Rattle.dns.proofs.Texts.{text, labels-inv, ends-with, small-keeps, lowered-labels, same-small, small-same}

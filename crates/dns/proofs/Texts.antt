@@ -1,14 +1,15 @@
 -- Laws of texts and their labels: a text is one with its labels, the case of letters, what is after a dot. Assumes nothing.
-use Prim.Native.Nat.{ℕ, _+_, _-_, _≤_, _<_}
+use Prim.Native.Nat.{ℕ, _+_, _≤_, _<_}
 use mathlib.Core.Path.{_≡_, refl, sym, ap, _∙_}
 use mathlib.Core.List.{List, [], _∷_, _++_, map, append-assoc}
 use mathlib.Core.Bool.{Bool, true, false, cond, _&&_}
 use lib.Dec.{eqb, leb}
 use native.Mathlib.Omega.{arith}
 use borrow.Author.Tests.{eq-eqb, ne-eqb, eqb-true, leb-true}
-use Rattle.labels.specs.Names.{Labels, dot, capital, longer, labels}
+use Rattle.texts.specs.Bytes.{dot}
+use Rattle.labels.specs.Names.{Labels, capital, longer, labels}
 use Rattle.dns.specs.Names.{small, lowered, Same}
-use Rattle.labels.specs.Model.{fromDot}
+use Rattle.texts.specs.Model.{fromDot}
 use Rattle.dns.specs.Model.{sameText}
 use Rattle.labels.proofs.Labels.{true-false, cut, labels-dot, labels-more}
 

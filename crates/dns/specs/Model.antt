@@ -6,9 +6,11 @@ use lib.ListN.{length, getD, drop}
 use lib.Dec.{leb, eqb}
 use Rattle.dns.specs.declared.Answer.{Answer}
 use Rattle.dns.specs.declared.Answer.the-variants.{Yes, No, Refused}
-use Rattle.labels.specs.Model.{begins, relativeText, fromDot, validPresented, validWanted, validEntry}
+use Rattle.texts.specs.Model.{begins, relativeText, fromDot}
+use Rattle.labels.specs.Model.{validPresented, validWanted, validEntry}
 use Rattle.refusal.specs.Refusals.{malformedDnsIdentifier, malformedNameConstraint}
-use Rattle.labels.specs.Names.{dot, star}
+use Rattle.texts.specs.Bytes.{dot}
+use Rattle.labels.specs.Names.{star}
 use Rattle.dns.specs.Names.{small}
 
 -- the same but for the case of ASCII letters

@@ -44,8 +44,8 @@ fn same_text(x: &[u8], y: &[u8]) -> bool
 fn stands_for(p: &[u8], q: &[u8]) -> bool
     ensures { λ r. ⌜ r ≡ standsFor (now (p .entry)) (now (q .entry)) ⌝ }
 {
-    if labels::begins(p, b'*') {
-        return same_text(labels::rest(p), labels::from_dot(q));
+    if texts::begins(p, b'*') {
+        return same_text(texts::rest(p), texts::from_dot(q));
     }
     same_text(p, q)
 }
@@ -62,7 +62,7 @@ fn in_subtree(p: &[u8], q: &[u8]) -> bool
     }
     let at = p.len() - q.len();
     let tail = &p[at..];
-    if labels::begins(q, b'.') {
+    if texts::begins(q, b'.') {
         return same_text(tail, q);
     }
     if p[at - 1] == b'.' {
@@ -79,8 +79,8 @@ fn meets_subtree(p: &[u8], q: &[u8]) -> bool
     if in_subtree(p, q) {
         return true;
     }
-    if labels::begins(p, b'*') {
-        return same_text(labels::rest(p), labels::from_dot(labels::rest(q)));
+    if texts::begins(p, b'*') {
+        return same_text(texts::rest(p), texts::from_dot(texts::rest(q)));
     }
     false
 }
@@ -97,7 +97,7 @@ pub fn match_wanted(p: &[u8], q: &[u8]) -> Answer
 {
     if labels::valid_presented(p) {
         if labels::valid_wanted(q) {
-            yes_if(stands_for(p, labels::relative(q)))
+            yes_if(stands_for(p, texts::relative(q)))
         } else {
             Answer::Refused(refusal::MALFORMED_DNS_IDENTIFIER)
         }

@@ -12,7 +12,7 @@ use Rattle.dns.specs.declared.Answer.the-variants.{Yes, No, Refused}
 use Rattle.ip.specs.declared.Masked.the-variants.{Same, Differs, Broken}
 use Rattle.refusal.specs.Refusals.{invalidNetworkMaskConstraint}
 use Rattle.der.proofs.Invert.{either}
-use Rattle.labels.proofs.Laws.{rest-all, at-place, past-end}
+use Rattle.texts.proofs.Laws.{rest-all, at-place, past-end}
 use Rattle.ip.specs.Model.{neither, matchSubnet, maskedByte, onMasked, subnetFrom}
 
 pub neither-false : (n a b : ℕ) → neither n a b ≡ false → (n ≡ a) ⊎ (n ≡ b)

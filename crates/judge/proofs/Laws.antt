@@ -1,8 +1,8 @@
 -- Steps, the states they hold, and the dialogue: a state is shown as it is, and an answer goes on from it. Assumes nothing.
-use Prim.Native.Nat.{ℕ, zero, suc, _+_, _*_, _≤_, _<_}
+use Prim.Native.Nat.{ℕ, zero, suc, _+_, _<_}
 use mathlib.Core.Path.{_≡_, refl, sym, _∙_, ap, subst}
 use mathlib.Core.Bool.{Bool, true, false, cond}
-use mathlib.Core.List.{List, [], _∷_, _++_, map}
+use mathlib.Core.List.{List, [], _∷_, map}
 use native.Mathlib.Omega.{arith}
 use lib.Dec.{ltb, eqb}
 use lib.ListN.{length, getD, length-map, List·getD-eq-default}
@@ -13,11 +13,6 @@ use Rattle.cert.specs.declared.Certificate.{Certificate}
 use Rattle.cert.specs.declared.Reading.{Reading}
 use Rattle.cert.specs.declared.Reading.the-variants.{Accepted, Refused as NoCertificate}
 use Rattle.cert.specs.Model.{readCertificate}
-use Rattle.der.specs.declared.Span.{Span}
-use Rattle.cert.specs.declared.key.Key.{Key}
-use Rattle.cert.specs.declared.key.Key.the-variants.{Parts, Refused as NoKey}
-use Rattle.asked.specs.declared.Question.{Question}
-use Rattle.asked.specs.declared.Question.the-variants.{Of}
 use Rattle.asked.specs.Model.{questionIn, questionOf}
 use Rattle.path.specs.Model.{onReading}
 use Rattle.table.specs.Model.{readingIn, Held}
@@ -30,18 +25,19 @@ use Rattle.machine.specs.declared.Numbers.{Numbers}
 use Rattle.machine.specs.declared.State.{State}
 use Rattle.machine.specs.declared.Phase.{Phase}
 use Rattle.machine.specs.declared.Phase.the-variants.{Walk, Ask, Offer, Found, Refused, Spent}
-use Rattle.machine.specs.Machine.{phaseTree, treeOf, keyAt, whatAt, effort, Halted, Started}
+use Rattle.machine.specs.Machine.{phaseTree, treeOf, keyAt, whatAt, Answered, Started}
 use Rattle.machine.specs.World.{worldOf, worldIn}
 use Rattle.machine.proofs.Lent.{world-held}
 use Rattle.machine.proofs.Whole.{ran-bound}
 use Rattle.conditions.specs.Request.{Request, Budgets}
 use Rattle.conditions.specs.Model.{nameOf, named, closed, worldFor, endOf, searchOf, decision}
 use Rattle.runs.specs.Runs.{Came}
-use Rattle.judge.specs.declared.Asked.{Asked}
+use Rattle.told.specs.declared.Asked.{Asked}
+use Rattle.wanted.specs.Model.{nameBy}
 use Rattle.steps.specs.declared.Step.{Step}
-use Rattle.steps.specs.Model.{phaseOf, numberOf, refusalOf, stateOf, stepOf, nameBy, isFound, shownAs, endedStep}
+use Rattle.steps.specs.Model.{phaseOf, numberOf, refusalOf, stateOf, stepOf, isFound, shownAs, endedStep}
 use Rattle.judge.specs.Steps.{treeFrom, At, unread, ran, Run}
-use Rattle.judge.specs.Places.{nowhere, filledOf, askedOf}
+use Rattle.told.specs.Model.{askedOf}
 
 -- ---- a table that is held
 module _ (T I : List (List ℕ)) (E : List ℕ) (h : Held T I E) where
@@ -66,10 +62,8 @@ module _ (T I : List (List ℕ)) (E : List ℕ) (h : Held T I E) where
     pub came-held : (k sg ex cm : ℕ) (said : List ℕ) (s : State) → Came (worldIn (readingsIn T I E n) I E S K C B D t w m) k sg ex cm said s → Came (worldOf I E S K C B D t w m) k sg ex cm said s
     came-held k sg ex cm said s = on-bytes (λ W. Came W k sg ex cm said s) S K C B D t w m n q
 
-    pub halted-held : (u s : State) (a : ℕ)
-        → (u .depth < 7 → (u .phase ≡ Walk → ⊥) → Halted (worldIn (readingsIn T I E n) I E S K C B D t w m) u s (a ∷ []) (give (treeOf (worldIn (readingsIn T I E n) I E S K C B D t w m) u) a) (effort (worldIn (readingsIn T I E n) I E S K C B D t w m) u))
-        → u .depth < 7 → (u .phase ≡ Walk → ⊥) → Halted (worldOf I E S K C B D t w m) u s (a ∷ []) (give (treeOf (worldOf I E S K C B D t w m) u) a) (effort (worldOf I E S K C B D t w m) u)
-    halted-held u s a = on-bytes (λ W. u .depth < 7 → (u .phase ≡ Walk → ⊥) → Halted W u s (a ∷ []) (give (treeOf W u) a) (effort W u)) S K C B D t w m n q
+    pub answered-held : (u s : State) (a : ℕ) → Answered (worldIn (readingsIn T I E n) I E S K C B D t w m) u a s → Answered (worldOf I E S K C B D t w m) u a s
+    answered-held u s a = on-bytes (λ W. Answered W u a s) S K C B D t w m n q
 
 -- what is said of a name, by what is read of the end entity
 pub name-read : (end : List ℕ) (kind : ℕ) (name : List ℕ) (r : Reading) (x : ℕ) → r ≡ readCertificate end true → x ≡ nameBy r end kind name → x ≡ nameOf end kind name
@@ -164,8 +158,8 @@ module _ (R : Request) where
 
   -- ---- an answer, the start, and an end entity that cannot be read
   pub answer-at : (t r : Step) (u s : State) (a : ℕ) → u ≡ stateOf t → r ≡ shownAs naming s (s .phase)
-      → (u .depth < 7 → (u .phase ≡ Walk → ⊥) → Halted (worldFor R) u s (a ∷ []) (give (treeOf (worldFor R) u) a) (effort (worldFor R) u)) → At R (give (treeFrom R t) a) r
-  unfolding treeFrom
+      → Answered (worldFor R) u a s → At R (give (treeFrom R t) a) r
+  unfolding treeFrom follow
   answer-at t r u s a q e h =
       let f : (u .depth < 7) × (u .phase ≡ Walk → ⊥) = subst (λ (v : State). (v .depth < 7) × (v .phase ≡ Walk → ⊥)) (sym q) (fair t) in
       let g = h (f .0) (f .1) in
@@ -212,18 +206,9 @@ module _ (R : Request) (B : Budgets) where
 abbrev numbersOf : State → Numbers
 numbersOf s = record { key = keyAt s; certificate = whatAt s }
 
-module _ (key what : ℕ) (q : Question) (signed algorithm signature own bits : Span) (e : ℕ) (r : Asked) where
-  pub asked-whole : (p : Key) → q ≡ Of signed algorithm signature p → p ≡ Parts own bits → r ≡ filledOf key what signed algorithm signature own bits 0 0 → r ≡ askedOf key what q
-  unfolding askedOf
-  asked-whole p a b h = h ∙ sym (ap (askedOf key what) (a ∙ ap (Of signed algorithm signature) b))
-
-  pub asked-unopened : (p : Key) → q ≡ Of signed algorithm signature p → p ≡ NoKey e → r ≡ filledOf key what signed algorithm signature nowhere nowhere 0 e → r ≡ askedOf key what q
-  unfolding askedOf
-  asked-unopened p a b h = h ∙ sym (ap (askedOf key what) (a ∙ ap (Of signed algorithm signature) b))
-
-pub question-told : (T I : List (List ℕ)) (E : List ℕ) (K : List (List ℕ)) (n : ℕ) (t : Step) (u : State) (q : Numbers) (w : Question) (r : Asked)
-    → u ≡ stateOf t → q ≡ record { key = keyAt u; certificate = whatAt u } → w ≡ questionIn (readingsIn T I E n) I E K n (q .key) (q .certificate) → r ≡ askedOf (q .key) (q .certificate) w
+pub question-told : (T I : List (List ℕ)) (E : List ℕ) (K : List (List ℕ)) (n : ℕ) (t : Step) (u : State) (q : Numbers) (r : Asked)
+    → u ≡ stateOf t → q ≡ record { key = keyAt u; certificate = whatAt u } → r ≡ askedOf (q .key) (q .certificate) (questionIn (readingsIn T I E n) I E K n (q .key) (q .certificate))
     → Held T I E → r ≡ askedOf (keyAt (stateOf t)) (whatAt (stateOf t)) (questionOf I E K n (keyAt (stateOf t)) (whatAt (stateOf t)))
-question-told T I E K n t u q w r a b c d h =
-    d ∙ ap (askedOf (q .key) (q .certificate)) (c ∙ ap (λ (g : ℕ → Reading). questionIn g I E K n (q .key) (q .certificate)) (held-readings T I E n h))
+question-told T I E K n t u q r a b d h =
+    d ∙ ap (λ (g : ℕ → Reading). askedOf (q .key) (q .certificate) (questionIn g I E K n (q .key) (q .certificate))) (held-readings T I E n h)
     ∙ ap (λ (m : Numbers). askedOf (m .key) (m .certificate) (questionOf I E K n (m .key) (m .certificate))) (b ∙ ap numbersOf a)

@@ -1,8 +1,7 @@
 -- Yes means yes, no means no, which no, the bound, and the names: of the step that answers lead to. Assumes nothing.
-use Prim.Native.Nat.{ℕ, _≤_}
+use Prim.Native.Nat.{ℕ}
 use mathlib.Core.Path.{_≡_, refl, sym, _∙_, ap, subst}
 use mathlib.Core.List.{List, [], _∷_, _++_}
-use mathlib.Core.Logic.{_⊎_}
 use native.Mathlib.Omega.{arith}
 use Rattle.dialogue.specs.Model.{Outcome, accepted, refused, spent, Tree, done, ask, offer}
 use Rattle.dialogue.specs.Dialogue.{give, follow, talk}
@@ -14,7 +13,7 @@ use Rattle.conditions.specs.Decided.{Decided}
 use Rattle.conditions.proofs.Decided.{answered, rfc5280-names}
 use Rattle.steps.specs.declared.Step.{Step}
 use Rattle.judge.specs.Steps.{treeFrom, Sees, At, Run}
-use Rattle.judge.specs.Verdict.{Yes, No, Spent, Cost, Verdict}
+use Rattle.judge.specs.Verdict.{Cost, Verdict}
 
 -- ---- step by step: where one call of `pathjudge_answer` follows another, the dialogue goes on
 pub next : (R : Request) (t : Tree) (s r : Step) (a : ℕ) → At R t s → At R (give (treeFrom R s) a) r → At R (give t a) r

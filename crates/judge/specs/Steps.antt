@@ -4,13 +4,14 @@ use mathlib.Core.Path.{_≡_}
 use mathlib.Core.Bool.{Bool, true, not}
 use mathlib.Core.List.{List}
 use lib.Dec.{eqb}
-use Rattle.cert.specs.declared.Reading.the-variants.{Refused as NoCertificate}
+use Rattle.cert.specs.declared.Reading.{Reading}
+use Rattle.cert.specs.declared.Reading.the-variants.{Accepted, Refused as NoCertificate}
 use Rattle.cert.specs.Model.{readCertificate}
 use Rattle.lent.specs.Lent.{pre}
 use Rattle.dialogue.specs.Model.{accepted, refused, spent, Tree, done, ask, offer}
 use Rattle.machine.specs.declared.State.{State}
 use Rattle.machine.specs.declared.Phase.{Phase}
-use Rattle.dialogue.specs.Dialogue.{follow}
+use Rattle.dialogue.specs.Dialogue.{give, follow}
 use Rattle.machine.specs.Machine.{treeOf, keyAt, whatAt, Ran, begun}
 use Rattle.conditions.specs.Request.{Request, Budgets}
 use Rattle.conditions.specs.Model.{nameOf, closed, worldFor, endOf, decision}
@@ -59,6 +60,13 @@ pub record At (R : Request) (t : Tree) (r : Step) : Type 0 where
   pub sees : Sees r t
   pub stands : treeFrom R r ≡ t
 
+-- the first step of a search, and the step after an answer
+abbrev pub Begun : Request → Budgets → Step → Type 0
+Begun R B r = At R (decision R B) r
+
+abbrev pub Answered : Request → Step → ℕ → Step → Type 0
+Answered R t a r = At R (give (treeFrom R t) a) r
+
 -- ---- a whole run
 -- the machine made so many moves, one after the other from the state at the start, to a state that is shown as r; none, where the end entity cannot be read
 pub data Made (R : Request) (B : Budgets) (answers : List ℕ) : Step → ℕ → Type 0 where
@@ -71,3 +79,8 @@ pub record Run (R : Request) (B : Budgets) (answers : List ℕ) (r : Step) : Typ
   pub moves : ℕ
   pub made : Made R B answers r moves
   pub few : moves ≤ suc (endOf R) * suc (B .extensions)
+
+-- ---- one certificate by itself
+unfoldable pub faultOf : Reading → ℕ
+faultOf (Accepted c) = 0
+faultOf (NoCertificate e) = e

@@ -1,11 +1,12 @@
 -- Laws of labels: of lists, and of a text that is cut at its dots. Assumes nothing.
-use Prim.Native.Nat.{ℕ, _+_, _-_}
+use Prim.Native.Nat.{ℕ}
 use mathlib.Core.Path.{_≡_, refl, sym, ap, _∙_}
 use mathlib.Core.List.{List, [], _∷_, _++_, append-assoc}
 use mathlib.Core.Bool.{Bool, true, false, cond, _&&_}
 use lib.Dec.{eqb}
 use native.Mathlib.Omega.{arith}
-use Rattle.labels.specs.Names.{Labels, dot, every, lastOf, longer, labels, none}
+use Rattle.texts.specs.Bytes.{dot}
+use Rattle.labels.specs.Names.{Labels, every, lastOf, longer, labels, none}
 
 pub true-false : {b : Bool} → b ≡ true → b ≡ false → ⊥
 true-false h k = let e : true ≡ false = sym h ∙ k in let z : _≡_ {A = ℕ} 0 1 = cc in omega arith

@@ -3,7 +3,7 @@ use Prim.Native.Nat.{ℕ, suc, _+_, _-_, _≤_, _<_}
 use mathlib.Core.Path.{_≡_, refl, sym, ap, _∙_}
 use mathlib.Core.List.{List, [], _∷_, _++_, append-nil}
 use mathlib.Core.Bool.{Bool, true, false, cond, not, _&&_, _||_, and-false, and-true, and-assoc, or-true}
-use mathlib.Core.Logic.{_⊎_, ⊎-elim}
+use mathlib.Core.Logic.{⊎-elim}
 use lib.ListN.{length, getD, take, drop, length-append}
 use lib.Dec.{ltb, leb, eqb}
 use native.Mathlib.Omega.{arith}
@@ -11,8 +11,10 @@ use borrow.Author.Tests.{eqb-true, eqb-false, leb-true, leb-false, lt-ltb, le-lt
 use Rattle.der.proofs.Laws.{lt-or-le}
 use Rattle.labels.specs.declared.Label.{Label}
 use Rattle.labels.specs.declared.Taken.the-variants.{Next, Bad}
-use Rattle.labels.specs.Names.{Labels, dot, hyphen, digit, letter, labelByte, every, lastOf, longer, labels, goodLabel, hostName, capital, none, starred, relative, wantedName, presentedName, entryName}
-use Rattle.labels.specs.Model.{whole, fresh, grown, takeByte, onTaken, hostFrom, hostText, relativeText, fromDot, begins, validStarred, validPresented, validWanted, validEntry}
+use Rattle.texts.specs.Bytes.{dot}
+use Rattle.labels.specs.Names.{Labels, hyphen, digit, letter, labelByte, every, lastOf, longer, labels, goodLabel, hostName, capital, none, starred, relative, wantedName, presentedName, entryName}
+use Rattle.texts.specs.Model.{relativeText, fromDot, begins}
+use Rattle.labels.specs.Model.{whole, fresh, grown, takeByte, onTaken, hostFrom, hostText, validStarred, validPresented, validWanted, validEntry}
 use lib.Seq.{take-length, take-suc, take-append-seam}
 use Rattle.labels.proofs.Labels.{every-snoc, every-front, last-snoc, Cut, cut, joined, joined-longer, labels-nil, labels-dot, labels-more, cut-more, labels-append, last-some}
 

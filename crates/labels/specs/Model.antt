@@ -1,27 +1,15 @@
 -- What the code answers, as functions of the bytes: the same tests in the same order.
-use Prim.Native.Nat.{ℕ, _+_, _-_}
+use Prim.Native.Nat.{ℕ, _+_}
 use mathlib.Core.List.{List, [], _∷_}
 use mathlib.Core.Bool.{Bool, true, false, cond}
-use lib.ListN.{length, getD, take, drop}
+use lib.ListN.{length, drop}
 use lib.Dec.{ltb, leb, eqb}
+use Rattle.texts.specs.Model.{begins, relativeText, fromDot}
 use Rattle.labels.specs.declared.Label.{Label}
 use Rattle.labels.specs.declared.Taken.{Taken}
 use Rattle.labels.specs.declared.Taken.the-variants.{Next, Bad}
-use Rattle.labels.specs.Names.{dot, star, hyphen, underscore, longestLabel, longestName, digit, letter}
-
-unfoldable pub begins : List ℕ → ℕ → Bool
-begins [] b = false
-begins (x ∷ xs) b = eqb x b
-
-unfoldable pub relativeText : List ℕ → List ℕ
-relativeText h =
-    cond (eqb (length h) 0)
-    h
-    (cond (eqb (getD h (length h - 1) 0) dot) (take (length h - 1) h) h)
-
-unfoldable pub fromDot : List ℕ → List ℕ
-fromDot [] = []
-fromDot (x ∷ xs) = cond (eqb x dot) (x ∷ xs) (fromDot xs)
+use Rattle.texts.specs.Bytes.{dot}
+use Rattle.labels.specs.Names.{star, hyphen, underscore, longestLabel, longestName, digit, letter}
 
 -- ---- a text byte by byte
 unfoldable pub whole : Label → Bool

@@ -5,11 +5,9 @@ use mathlib.Core.List.{List, [], _∷_}
 use mathlib.Core.Bool.{Bool, true, false, cond, not, _&&_, _||_}
 use lib.ListN.{length, getD, take, drop}
 use lib.Dec.{leb, ltb, eqb}
+use Rattle.texts.specs.Bytes.{dot}
 
 -- ---- bytes, by their ASCII numbers
-abbrev pub dot : ℕ
-dot = 46
-
 abbrev pub star : ℕ
 star = 42
 

@@ -1,8 +1,7 @@
 // Which texts are DNS names: labels with a dot between each two, byte by byte.
 ghost use mathlib.Core.Path.{_≡_};
-ghost use lib.ListN.{drop};
 ghost use Rattle.labels.specs.Names.{digit, letter};
-ghost use Rattle.labels.specs.Model.{begins, relativeText, fromDot, whole, takeByte, hostText, validPresented, validWanted, validEntry};
+ghost use Rattle.labels.specs.Model.{whole, takeByte, hostText, validPresented, validWanted, validEntry};
 
 // The most bytes of a name's text: RFC 1034, 3.1, without the length byte of the first label and the root's.
 const LONGEST_NAME: usize = 253;
@@ -19,54 +18,6 @@ struct Label {
 enum Taken {
     Next(Label),
     Bad,
-}
-
-// Whether a text begins with a byte.
-pub fn begins(h: &[u8], b: u8) -> bool
-    ensures { λ r. ⌜ r ≡ begins (now (h .entry)) b ⌝ }
-{
-    if h.len() == 0 {
-        return false;
-    }
-    h[0] == b
-}
-
-// A text without its first byte.
-pub fn rest(h: &[u8]) -> &[u8]
-    ensures { λ r. ⌜ now r ≡ drop 1 (now (h .entry)) ⌝ }
-{
-    if h.len() == 0 {
-        return h;
-    }
-    &h[1..]
-}
-
-// A text without the dot that ends it, if one does.
-pub fn relative(h: &[u8]) -> &[u8]
-    ensures { λ r. ⌜ now r ≡ relativeText (now (h .entry)) ⌝ }
-{
-    if h.len() == 0 {
-        return h;
-    }
-    let last = h.len() - 1;
-    if h[last] == b'.' {
-        return &h[0..last];
-    }
-    h
-}
-
-// What a text has from its first dot on.
-pub fn from_dot(h: &[u8]) -> &[u8]
-    ensures { λ r. ⌜ now r ≡ fromDot (now (h .entry)) ⌝ }
-{
-    let mut i: usize = 0;
-    while i < h.len() {
-        if h[i] == b'.' {
-            return &h[i..];
-        }
-        i += 1;
-    }
-    &h[i..]
 }
 
 fn is_digit(b: u8) -> bool
@@ -191,11 +142,11 @@ pub fn valid_presented(h: &[u8]) -> bool
     if LONGEST_NAME < h.len() {
         return false;
     }
-    if begins(h, b'*') {
-        let tail = rest(h);
-        if begins(tail, b'.') {
-            let name = rest(tail);
-            if from_dot(name).len() == 0 {
+    if texts::begins(h, b'*') {
+        let tail = texts::rest(h);
+        if texts::begins(tail, b'.') {
+            let name = texts::rest(tail);
+            if texts::from_dot(name).len() == 0 {
                 return false;
             }
             return host(name);
@@ -212,7 +163,7 @@ pub fn valid_wanted(h: &[u8]) -> bool
     if LONGEST_NAME < h.len() {
         return false;
     }
-    host(relative(h))
+    host(texts::relative(h))
 }
 
 // Whether a text is an entry of name constraints.
@@ -225,8 +176,8 @@ pub fn valid_entry(h: &[u8]) -> bool
     if h.len() == 0 {
         return true;
     }
-    if begins(h, b'.') {
-        return host(rest(h));
+    if texts::begins(h, b'.') {
+        return host(texts::rest(h));
     }
     host(h)
 }

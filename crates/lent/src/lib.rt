@@ -13,7 +13,7 @@ pub const MOST_INTERMEDIATES: usize = 6;
 
 // The bytes of the certificate that has a number.
 pub fn certificate<'a>(
-    issuers: &'a [&'a [u8]],
+    issuers: &[&'a [u8]],
     end: &'a [u8],
     anchors: usize,
     number: usize,
@@ -48,7 +48,7 @@ fn row_at(anchors: usize, count: usize, number: usize) -> usize
 // What is known of the certificate that has a number.
 pub fn reading<'a>(
     table: &[[usize; 37]],
-    issuers: &'a [&'a [u8]],
+    issuers: &[&'a [u8]],
     end: &'a [u8],
     anchors: usize,
     number: usize,
@@ -63,7 +63,7 @@ pub fn reading<'a>(
 // The outline of it.
 pub fn outline<'a>(
     table: &[[usize; 37]],
-    issuers: &'a [&'a [u8]],
+    issuers: &[&'a [u8]],
     end: &'a [u8],
     anchors: usize,
     number: usize,

@@ -1,22 +1,21 @@
 -- Laws of the world of a request that the functions' proofs cite. Assumes nothing.
-use Prim.Native.Nat.{ℕ, zero, suc, _+_, _-_, _≤_, _<_}
+use Prim.Native.Nat.{ℕ, _+_, _-_, _≤_, _<_}
 use mathlib.Core.Path.{_≡_, refl, sym, ap, _∙_}
 use mathlib.Core.Bool.{Bool, true, false, cond}
 use mathlib.Core.Logic.{⊎-elim}
 use mathlib.Core.List.{List, [], _∷_, map}
 use native.Mathlib.Omega.{arith}
 use lib.Dec.{ltb, eqb}
-use lib.ListN.{length, getD, set, List·getD-eq-default}
-use lib.Seq.{getD-set-same, getD-set-other}
+use lib.ListN.{length, getD, set}
 use borrow.Author.Tests.{le-leb, ltb-true, eqb-true}
 use Rattle.refusal.specs.Refusals.{badDer, invalidSignatureForPublicKey, unsupportedSignatureAlgorithm, unsupportedSignatureAlgorithmForPublicKey, maximumNameConstraintComparisonsExceeded}
 use Rattle.der.proofs.Laws.{lt-or-le}
-use Rattle.lent.specs.Lent.{certificateOf, readingsOf, rowAt, readingsIn, lower, pre, someOf}
+use Rattle.lent.specs.Lent.{certificateOf, readingsOf, readingsIn, pre, someOf}
 use Rattle.cert.specs.declared.Reading.{Reading}
 use Rattle.cert.specs.declared.Reading.the-variants.{Accepted, Refused as NoCertificate}
 use Rattle.cert.specs.Model.{readCertificate}
 use Rattle.rows.specs.Model.{outlined}
-use Rattle.table.specs.Model.{readingIn, Held}
+use Rattle.table.specs.Model.{Held}
 use Rattle.asked.specs.Model.{replyIn}
 use Rattle.path.specs.Model.{checkIn}
 use Rattle.candidate.specs.Model.{verdictIn}
@@ -24,12 +23,12 @@ use Rattle.lent.proofs.Laws.{held-readings}
 use Rattle.entries.specs.declared.Spent.{Spent}
 use Rattle.entries.specs.Tally.{Tally, clean, after, spend}
 use Rattle.entries.proofs.Spending.{enough, lacking}
-use Rattle.subtrees.specs.Noted.{Noted, noted, lent}
-use Rattle.constraints.specs.Paths.{rowOf, certAt, certsAt, lower as numbers-below}
+use Rattle.subtrees.specs.Noted.{Noted, lent}
+use Rattle.constraints.specs.Paths.{notedOf, certAt, certsAt}
 use Rattle.subtrees.specs.Model.{onRead}
 use Rattle.constraints.specs.Model.{ownIn, own, anchoredIn, issuersIn, issuers as those-of, pathConstraintsIn, pathConstraints}
 use Rattle.dialogue.specs.Model.{Path, World, signatures}
-use Rattle.machine.specs.World.{meaningOf, loweredOf, isBound, namesOf, constrainedAs, notedOf, namesIn, worldOf, worldIn, Judges}
+use Rattle.machine.specs.World.{meaningOf, isBound, namesOf, constrainedAs, namesIn, worldOf, worldIn, Judges}
 use Rattle.machine.proofs.Levels.{pre-push}
 
 -- ---- the checks of a path with one more certificate
@@ -55,66 +54,16 @@ only-yes a h = by (eqb a 0) refl (eqb a 2) (eqb a 3) (eqb a 4) h
 pub replied : (R : ℕ → Reading) (I : List (List ℕ)) (E : List ℕ) (K : List (List ℕ)) (n key key′ m a x : ℕ) → x ≡ replyIn R I E K n key m → key ≡ key′ → m ≡ meaningOf a → replyIn R I E K n key′ (meaningOf a) ≡ x
 replied R I E K n key key′ m a x e k w = sym (e ∙ ap (λ (j : ℕ). replyIn R I E K n j m) k ∙ ap (replyIn R I E K n key′) w)
 
--- ---- numbers with the anchors left out
-pub lower-turn : (F : ℕ → ℕ) (low path : List ℕ) (i v : ℕ) → i < length low → v ≡ F (getD path i 0) → ((k : ℕ) → k < i → getD low k 0 ≡ F (getD path k 0))
-    → (k : ℕ) → k < i + 1 → getD (set low i v) k 0 ≡ F (getD path k 0)
-lower-turn F low path i v l e h k b =
-    ⊎-elim
-    (λ (m : k < i). getD-set-other low i k v 0 (omega arith) ∙ h k m)
-    (λ (m : i ≤ k).
-    let q : k ≡ i = omega arith in
-    ap (λ (j : ℕ). getD (set low i v) j 0) q ∙ getD-set-same low i v 0 l ∙ e ∙ ap (λ (j : ℕ). F (getD path j 0)) (sym q))
-    (lt-or-le k i)
+-- ---- the name constraints of a path, by what a table says
+module _ (T I : List (List ℕ)) (E : List ℕ) (anchors : ℕ) (C : List (List ℕ)) (B : List ℕ) (k : ℕ) (path : List ℕ) (d left : ℕ) (x : Spent) where
+  pub names-bound : x ≡ spend left (pathConstraintsIn (getD C k []) true (certsAt (certAt T I E anchors) path d)) → isBound C B k ≡ true → x ≡ spend left (namesIn (readingsIn T I E anchors) I E anchors C B k (pre path d))
+  unfolding namesIn certsAt
+  names-bound e b = rw b e
 
-module _ (T I : List (List ℕ)) (E : List ℕ) (anchors : ℕ) where
-  -- what a table says, by number
-  abbrev R : ℕ → Reading
-  R = readingsIn T I E anchors
-
-  one-lowered : (n : ℕ) → certAt T I E (loweredOf anchors (length I) n) ≡ notedOf R I E anchors n
-  unfolding certAt rowOf loweredOf certificateOf readingsIn rowAt
-  one-lowered n = by (ltb n anchors)
-    where
-      same : (c : Bool) → cond c (length I) (length I) ≡ length I
-      same true = refl
-      same false = refl
-
-      past : noted (getD I (length I) E) (readingIn T (cond (ltb (length I) (length I)) (length I) (length I)) (getD I (length I) E)) ≡ noted E (readingIn T (length I) E)
-      past = rw (List·getD-eq-default I E {n = length I} (omega arith), same (ltb (length I) (length I)))
-
-      by : (b : Bool) → noted (getD I (cond b (length I) (n - anchors)) E) (readingIn T (cond (ltb (cond b (length I) (n - anchors)) (length I)) (cond b (length I) (n - anchors)) (length I)) (getD I (cond b (length I) (n - anchors)) E))
-          ≡ noted (cond b E (getD I (n - anchors) E)) (readingIn T (cond b (length I) (cond (ltb (n - anchors) (length I)) (n - anchors) (length I))) (cond b E (getD I (n - anchors) E)))
-      by true = past
-      by false = refl
-
-  module _ (low path : List ℕ) (h : (k : ℕ) → k < 7 → getD low k 0 ≡ loweredOf anchors (length I) (getD path k 0)) where
-    at-place : (k : ℕ) → k < 7 → certAt T I E (getD low k 0) ≡ notedOf R I E anchors (getD path k 0)
-    at-place k l = ap (certAt T I E) (h k l) ∙ one-lowered (getD path k 0)
-
-    those-below : (d : ℕ) → d ≤ 7 → map (certAt T I E) (numbers-below low d) ≡ map (notedOf R I E anchors) (lower path d)
-    unfolding lower numbers-below
-    those-below zero l = refl
-    those-below (suc d) l =
-        let e : certAt T I E (getD low d 0) ≡ notedOf R I E anchors (getD path d 0) = at-place d (omega arith) in
-        let r : map (certAt T I E) (numbers-below low d) ≡ map (notedOf R I E anchors) (lower path d) = those-below d (omega arith) in
-        cc
-
-    -- the certificates are the same, and so is what is known of them
-    pub certs-lowered : (d : ℕ) → d < 7 → certsAt T I E low d ≡ map (notedOf R I E anchors) (pre path d)
-    unfolding certsAt
-    certs-lowered d l =
-        let e : certAt T I E (getD low d 0) ≡ notedOf R I E anchors (getD path d 0) = at-place d l in
-        let r : map (certAt T I E) (numbers-below low d) ≡ map (notedOf R I E anchors) (lower path d) = those-below d (omega arith) in
-        cc
-
-    module _ (C : List (List ℕ)) (B : List ℕ) (k d left : ℕ) (l : d < 7) (x : Spent) where
-      pub names-bound : x ≡ spend left (pathConstraintsIn (getD C k []) true (certsAt T I E low d)) → isBound C B k ≡ true → x ≡ spend left (namesIn R I E anchors C B k (pre path d))
-      unfolding namesIn
-      names-bound e b = rw (b, ← certs-lowered d l) e
-
-      pub names-free : (other : List ℕ) → x ≡ spend left (pathConstraintsIn other false (certsAt T I E low d)) → isBound C B k ≡ false → someOf (λ n. constrainedAs (outlined (R n))) (pre path d) ≡ true → x ≡ spend left (namesIn R I E anchors C B k (pre path d))
-      unfolding namesIn pathConstraintsIn anchoredIn
-      names-free other e b c = rw (b, c, ← certs-lowered d l) e
+  pub names-free : (other : List ℕ) → x ≡ spend left (pathConstraintsIn other false (certsAt (certAt T I E anchors) path d)) → isBound C B k ≡ false
+      → someOf (λ n. constrainedAs (outlined (readingsIn T I E anchors n))) (pre path d) ≡ true → x ≡ spend left (namesIn (readingsIn T I E anchors) I E anchors C B k (pre path d))
+  unfolding namesIn certsAt pathConstraintsIn anchoredIn
+  names-free other e b c = rw (b, c) e
 
 -- where nobody is known to have name constraints, nothing is taken and nothing refused
 pub names-bare : (R : ℕ → Reading) (I : List (List ℕ)) (E : List ℕ) (anchors : ℕ) (C : List (List ℕ)) (B : List ℕ) (k : ℕ) (path : List ℕ) (left : ℕ) → isBound C B k ≡ false → someOf (λ n. constrainedAs (outlined (R n))) path ≡ false

@@ -1,6 +1,6 @@
 -- What each move of the machine leaves of the tree of questions. No code: states are records. Assumes nothing.
 use Prim.Native.Nat.{ℕ, zero, suc, _+_, _-_, _≤_, _<_}
-use mathlib.Core.Path.{_≡_, refl, sym, _∙_, ap}
+use mathlib.Core.Path.{_≡_, refl, sym, _∙_, ap, subst}
 use mathlib.Core.Bool.{Bool, true, false, cond}
 use mathlib.Core.List.{List, [], _∷_, _++_}
 use mathlib.Core.Logic.{inl, inr, ⊎-elim}
@@ -20,7 +20,7 @@ use Rattle.dialogue.specs.Model.{Path, Stage, World, signatures, Event, note, e
 use Rattle.dialogue.specs.Dialogue.{give}
 use Rattle.dialogue.specs.Work.{paid}
 use Rattle.machine.specs.Levels.{under}
-use Rattle.machine.specs.Machine.{left, here, onward, clearTree, wrongTree, placeOf, keyAt, whatAt, moreTree, askTree, phaseTree, treeOf, still, phaseEffort, effort, Stands, Kept, Pushed, Heard, Grew, One, ends, leaves, looks, pushes, Moved, tryTree, extendTree, extendStill}
+use Rattle.machine.specs.Machine.{left, here, onward, clearTree, wrongTree, placeOf, keyAt, whatAt, moreTree, askTree, phaseTree, treeOf, still, phaseEffort, effort, Stands, Kept, Pushed, Heard, Grew, One, ends, leaves, looks, pushes, following, stepped, noting, Moved, tryTree, extendTree, extendStill}
 use Rattle.machine.proofs.Levels.{lower-step, enter-deep, enter-refused, level-done, under-bottom, under-step, level-next, level-push}
 use Rattle.machine.proofs.Steps.{unless-refused, paid-extension, run-extension, run-no-extension, through-asks, through-no-signature, conclude-no-comparison, conclude-refused, conclude-offers}
 
@@ -79,8 +79,8 @@ module _ (W : World) where
         unfolding phaseTree phaseEffort run paid
         failed x b e h =
             let list : rest ≡ note x ∷ left W s = ap (λ (l : List Event). l ++ left W s) h in
-            let all : paid (λ ev. 1) rest (s .extensions - 1) ≡ 1 + paid (λ ev. 1) (left W s) (s .extensions - 1) = ap (λ (l : List Event). paid (λ ev. 1) l (s .extensions - 1)) list in
-            let mine : phaseEffort W (failing b) (s .phase) ≡ paid (λ ev. 1) (left W s) (s .extensions - 1) = ap (phaseEffort W (failing b)) walks in
+            let all : paid rest (s .extensions - 1) ≡ 1 + paid (left W s) (s .extensions - 1) = ap (λ (l : List Event). paid l (s .extensions - 1)) list in
+            let mine : phaseEffort W (failing b) (s .phase) ≡ paid (left W s) (s .extensions - 1) = ap (phaseEffort W (failing b)) walks in
             record {
               same =
                   ap (phaseTree W (failing b)) walks
@@ -88,7 +88,7 @@ module _ (W : World) where
                   ∙ ap (λ (l : List Event). run W l (s .signatures) (s .extensions - 1) (s .comparisons) (s .best)) (sym list)
                   ∙ run-extension W rest (s .signatures) (s .extensions) (s .comparisons) (s .best) pays;
               deep = deep;
-              most = omega (arith, paid-extension (λ ev. 1) rest (s .extensions) pays);
+              most = omega (arith, paid-extension rest (s .extensions) pays);
               grew = inl (record { path = refl; next = refl; depth = refl });
             }
 
@@ -105,15 +105,15 @@ module _ (W : World) where
         unfolding phaseTree phaseEffort
         extend-goes lp ln room k =
             let list : rest ≡ left W pushed = level-push W (s .path) (s .next) (s .depth) i (omega arith) (omega arith) (omega arith) k in
-            let all : paid (λ ev. 1) rest (s .extensions - 1) ≡ paid (λ ev. 1) (left W pushed) (s .extensions - 1) = ap (λ (l : List Event). paid (λ ev. 1) l (s .extensions - 1)) list in
-            let mine : phaseEffort W pushed (s .phase) ≡ paid (λ ev. 1) (left W pushed) (s .extensions - 1) = ap (phaseEffort W pushed) walks in
+            let all : paid rest (s .extensions - 1) ≡ paid (left W pushed) (s .extensions - 1) = ap (λ (l : List Event). paid l (s .extensions - 1)) list in
+            let mine : phaseEffort W pushed (s .phase) ≡ paid (left W pushed) (s .extensions - 1) = ap (phaseEffort W pushed) walks in
             record {
               same =
                   ap (phaseTree W pushed) walks
                   ∙ ap (λ (l : List Event). run W l (s .signatures) (s .extensions - 1) (s .comparisons) (s .best)) (sym list)
                   ∙ run-extension W rest (s .signatures) (s .extensions) (s .comparisons) (s .best) pays;
               deep = omega arith;
-              most = omega (arith, paid-extension (λ ev. 1) rest (s .extensions) pays);
+              most = omega (arith, paid-extension rest (s .extensions) pays);
               grew = inr (record { path = refl; next = refl; depth = refl });
             }
 
@@ -131,7 +131,7 @@ module _ (W : World) where
         unfolding phaseTree phaseEffort run paid
         over z =
             let list : left W s ≡ leave ∷ [] = gone ∙ ap (λ (l : List Event). leave ∷ l) (under-bottom W (s .path) (s .next) (s .depth) z) in
-            let all : still W s ≡ 1 = ap (λ (l : List Event). paid (λ ev. 1) l (s .extensions)) list in
+            let all : still W s ≡ 1 = ap (λ (l : List Event). paid l (s .extensions)) list in
             record {
               same =
                   ap (λ (l : List Event). run W l (s .signatures) (s .extensions) (s .comparisons) (s .best)) (sym list)
@@ -149,8 +149,8 @@ module _ (W : World) where
         unfolding phaseTree phaseEffort run paid
         pops z =
             let list : left W s ≡ leave ∷ left W popped = gone ∙ ap (λ (l : List Event). leave ∷ l) (under-step W (s .path) (s .next) (s .depth) z) in
-            let all : still W s ≡ 1 + paid (λ ev. 1) (left W popped) (s .extensions) = ap (λ (l : List Event). paid (λ ev. 1) l (s .extensions)) list in
-            let its : phaseEffort W popped (s .phase) ≡ paid (λ ev. 1) (left W popped) (s .extensions) = ap (phaseEffort W popped) walks in
+            let all : still W s ≡ 1 + paid (left W popped) (s .extensions) = ap (λ (l : List Event). paid l (s .extensions)) list in
+            let its : phaseEffort W popped (s .phase) ≡ paid (left W popped) (s .extensions) = ap (phaseEffort W popped) walks in
             record {
               same =
                   ap (phaseTree W popped) walks
@@ -163,19 +163,16 @@ module _ (W : World) where
             }
 
       module _ (some : getD (s .next) (s .depth) 0 < W .candidates) (ln : length (s .next) ≡ 7) where
-        abbrev stepped : State
-        stepped = record { path = s .path; next = set (s .next) (s .depth) (getD (s .next) (s .depth) 0 + 1); depth = s .depth; at = s .at; anchor = s .anchor; signatures = s .signatures; extensions = s .extensions; comparisons = s .comparisons; best = s .best; phase = s .phase }
-
         abbrev i : ℕ
-        i = getD (s .next) (s .depth) 0
+        i = following s
 
-        ahead : (v : Verdict) → W .verdict (here s) i ≡ v → left W s ≡ one (enter W (mostIntermediates - s .depth)) (here s) i v ++ left W stepped
+        ahead : (v : Verdict) → W .verdict (here s) i ≡ v → left W s ≡ one (enter W (mostIntermediates - s .depth)) (here s) i v ++ left W (stepped s)
         ahead v e = level-next W (s .path) (s .next) (s .depth) v some (omega arith) e
 
-        moved : (r : State) (es : List Event) → left W s ≡ es → Stands W r (run W es (s .signatures) (s .extensions) (s .comparisons) (s .best)) (paid (λ ev. 1) es (s .extensions) - 1) → 0 < paid (λ ev. 1) es (s .extensions) → One s r → Moved W s r
+        moved : (r : State) (es : List Event) → left W s ≡ es → Stands W r (run W es (s .signatures) (s .extensions) (s .comparisons) (s .best)) (paid es (s .extensions) - 1) → 0 < paid es (s .extensions) → One s r → Moved W s r
         unfolding phaseTree
         moved r es e h l o =
-            let all : still W s ≡ paid (λ ev. 1) es (s .extensions) = ap (λ (z : List Event). paid (λ ev. 1) z (s .extensions)) e in
+            let all : still W s ≡ paid es (s .extensions) = ap (λ (z : List Event). paid z (s .extensions)) e in
             record {
               same = h .same ∙ ap (λ (z : List Event). run W z (s .signatures) (s .extensions) (s .comparisons) (s .best)) (sym e) ∙ ap (phaseTree W s) (sym walks);
               deep = h .deep;
@@ -184,30 +181,28 @@ module _ (W : World) where
               one = o;
             }
 
-        pub tries : (r : State) → W .verdict (here s) i ≡ Anchor → Heard W stepped r (tryTree W stepped i) (still W stepped) → Moved W s r
+        pub tries : (r : State) → W .verdict (here s) i ≡ Anchor → Heard W (stepped s) r (tryTree W (stepped s) i) (still W (stepped s)) → Moved W s r
         unfolding one paid
         tries r e h = moved r _ (ahead Anchor e) (record { same = h .same; deep = h .deep; most = omega (arith, h .most) }) (omega arith) (looks (h .kept .path) (h .kept .next) (h .kept .depth))
 
-        positive : (es : List Event) (b : ℕ) → 0 < paid (λ ev. 1) (extension ∷ es) b
+        positive : (es : List Event) (b : ℕ) → 0 < paid (extension ∷ es) b
         unfolding paid
         positive es zero = omega arith
         positive es (suc b) = omega arith
 
-        pub extends : (r : State) → W .verdict (here s) i ≡ Extend → Grew W stepped r i (extendTree W stepped i) (extendStill W stepped i) → Moved W s r
+        pub extends : (r : State) → W .verdict (here s) i ≡ Extend → Grew W (stepped s) r i (extendTree W (stepped s) i) (extendStill W (stepped s) i) → Moved W s r
         unfolding one
         extends r e h =
             moved r _ (ahead Extend e) (record { same = h .same; deep = h .deep; most = h .most }) (positive _ (s .extensions))
-            (⊎-elim (λ (k : Kept stepped r). looks (k .path) (k .next) (k .depth)) (λ (k : Pushed stepped r i). pushes (k .path) (k .next) (k .depth)) (h .grew))
+            (⊎-elim (λ (k : Kept (stepped s) r). looks (k .path) (k .next) (k .depth)) (λ (k : Pushed (stepped s) r i). pushes (k .path) (k .next) (k .depth)) (h .grew))
 
-        abbrev noting : ℕ → State
-        noting b = record { path = s .path; next = set (s .next) (s .depth) (getD (s .next) (s .depth) 0 + 1); depth = s .depth; at = s .at; anchor = s .anchor; signatures = s .signatures; extensions = s .extensions; comparisons = s .comparisons; best = b; phase = s .phase }
-
-        pub notes : (x b : ℕ) → b ≡ worseOf (s .best) x → W .verdict (here s) i ≡ Pass x → Moved W s (noting b)
+        pub notes : (r : State) (x : ℕ) → r ≡ noting (stepped s) x → W .verdict (here s) i ≡ Pass x → Moved W s r
         unfolding one run phaseTree phaseEffort paid
-        notes x b q e =
-            let its : phaseEffort W (noting b) (s .phase) ≡ paid (λ ev. 1) (left W stepped) (s .extensions) = ap (phaseEffort W (noting b)) walks in
-            moved (noting b) _ (ahead (Pass x) e)
-            (record { same = ap (phaseTree W (noting b)) walks ∙ ap (λ (n : ℕ). onward W stepped (s .signatures) (s .comparisons) n) q; deep = deep; most = omega arith }) (omega arith) (looks refl refl refl)
+        notes r x n e =
+            let u = noting (stepped s) x in
+            let its : phaseEffort W u (s .phase) ≡ paid (left W (stepped s)) (s .extensions) = ap (phaseEffort W u) walks in
+            subst (Moved W s) (sym n)
+            (moved u _ (ahead (Pass x) e) (record { same = ap (phaseTree W u) walks; deep = deep; most = omega arith }) (omega arith) (looks refl refl refl))
 
     -- ---- an answer
     abbrev walking : ℕ → State

@@ -12,10 +12,10 @@ pub unless-refused : (t : Tree) (f : ℕ → Tree) (e : ℕ) → (e ≡ 0 → �
 unless-refused t f zero h = absurd (h refl)
 unless-refused t f (suc e) h = refl
 
-pub paid-extension : (w : Event → ℕ) (es : List Event) (b : ℕ) → (b ≡ 0 → ⊥) → paid w (extension ∷ es) b ≡ w extension + paid w es (b - 1)
+pub paid-extension : (es : List Event) (b : ℕ) → (b ≡ 0 → ⊥) → paid (extension ∷ es) b ≡ 1 + paid es (b - 1)
 unfolding paid
-paid-extension w es zero h = absurd (h refl)
-paid-extension w es (suc b) h = let e : suc b - 1 ≡ b = omega arith in ap (λ (n : ℕ). w extension + paid w es n) (sym e)
+paid-extension es zero h = absurd (h refl)
+paid-extension es (suc b) h = let e : suc b - 1 ≡ b = omega arith in ap (λ (n : ℕ). 1 + paid es n) (sym e)
 
 module _ (W : World) where
   pub run-extension : (es : List Event) (s b n e : ℕ) → (b ≡ 0 → ⊥) → run W es s (b - 1) n e ≡ run W (extension ∷ es) s b n e

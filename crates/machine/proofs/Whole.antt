@@ -24,7 +24,7 @@ module _ (W : World) where
     unfolding search phaseTree phaseEffort
     starts h =
         let list : events W end ≡ left W (begun end s b n Walk) = events-start W end (begun end s b n Walk .path) (begun end s b n Walk .next) h refl refl in
-        let same : paid (λ ev. 1) (events W end) b ≡ paid (λ ev. 1) (left W (begun end s b n Walk)) b = ap (λ (l : List Event). paid (λ ev. 1) l b) list in
+        let same : paid (events W end) b ≡ paid (left W (begun end s b n Walk)) b = ap (λ (l : List Event). paid l b) list in
         record {
           same = ap (λ (l : List Event). run W l s b n unknownIssuer) (sym list);
           deep = omega arith;
@@ -52,8 +52,8 @@ module _ (W : World) where
   ran-bound (reply a h m) = omega (arith, ran-bound h, m .most)
 
   -- an answer, and the walk after it
-  pub answered : (s t r : State) (a : ℕ) → Heard W s t (give (treeOf W s) a) (effort W s) → Halted W t r [] (treeOf W t) (effort W t)
-      → Halted W s r (a ∷ []) (give (treeOf W s) a) (effort W s)
+  pub answered : (s t r : State) (a : ℕ) → Heard W s t (give (treeOf W s) a) (effort W s) → Halted W t r [] → Halted W s r (a ∷ [])
+  unfolding follow
   answered s t r a m h = record {
     same = h .same ∙ m .same;
     deep = h .deep;
@@ -64,10 +64,21 @@ module _ (W : World) where
         (k .0, subst (λ (l : List ℕ). Ran W s₀ r l (k .0)) (append-nil (said ++ (a ∷ []))) (k .1));
   }
 
+  -- an answer after which there is nothing to walk
+  pub answered-at-once : (s t : State) (a : ℕ) → Heard W s t (give (treeOf W s) a) (effort W s) → (t .phase ≡ Walk → ⊥) → Halted W s t (a ∷ [])
+  unfolding follow
+  answered-at-once s t a m h = record {
+    same = m .same;
+    deep = m .deep;
+    most = m .most;
+    halts = h;
+    ran = λ s₀ said n g. (n, reply a g m);
+  }
+
   -- the start, and the walk after it
   module _ (end s b n : ℕ) where
-    pub started : (r : State) → W .check (end ∷ []) ≡ 0 → Halted W (begun end s b n Walk) r [] (treeOf W (begun end s b n Walk)) (effort W (begun end s b n Walk))
-        → Started W end s b n r
+    pub started : (r : State) → W .check (end ∷ []) ≡ 0 → Halted W (begun end s b n Walk) r [] → Started W end s b n r
+    unfolding follow
     started r e h =
         let m = starts end s b n e in
         let k = h .ran (begun end s b n Walk) [] 0 begin in

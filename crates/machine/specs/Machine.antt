@@ -13,7 +13,7 @@ use Rattle.machine.specs.declared.State.{State}
 use Rattle.machine.specs.declared.Phase.{Phase}
 use Rattle.machine.specs.declared.Phase.the-variants.{Walk, Ask, Offer, Found, Refused, Spent}
 use Rattle.dialogue.specs.Model.{Path, World, signatures, Event, extension, try, accepted, refused, spent, Tree, done, ask, offer, unless, enter, through, conclude, run, search}
-use Rattle.dialogue.specs.Dialogue.{give}
+use Rattle.dialogue.specs.Dialogue.{give, follow}
 use Rattle.dialogue.specs.Work.{paid}
 use Rattle.machine.specs.Levels.{remaining}
 
@@ -66,7 +66,7 @@ treeOf W s = phaseTree W s (s .phase)
 
 -- the events that are left, at most
 abbrev pub still : World → State → ℕ
-still W s = paid (λ ev. 1) (left W s) (s .extensions)
+still W s = paid (left W s) (s .extensions)
 
 unfoldable pub phaseEffort : World → State → Phase → ℕ
 phaseEffort W s Walk = still W s
@@ -118,6 +118,13 @@ following s = getD (s .next) (s .depth) 0
 abbrev pub passed : State → List ℕ
 passed s = set (s .next) (s .depth) (following s + 1)
 
+abbrev pub stepped : State → State
+stepped s = record { path = s .path; next = passed s; depth = s .depth; at = s .at; anchor = s .anchor; signatures = s .signatures; extensions = s .extensions; comparisons = s .comparisons; best = s .best; phase = s .phase }
+
+-- a state with one more refusal noted
+abbrev pub noting : State → ℕ → State
+noting s x = record { path = s .path; next = s .next; depth = s .depth; at = s .at; anchor = s .anchor; signatures = s .signatures; extensions = s .extensions; comparisons = s .comparisons; best = worseOf (s .best) x; phase = s .phase }
+
 -- one move: the search is over at the lowest level; a level is left; the next candidate is looked at, and stays below or comes on top
 pub data One (s r : State) : Type 0 where
   ends : Kept s r → s .depth ≡ 0 → r .phase ≡ Refused (s .best) → One s r
@@ -145,7 +152,7 @@ extendTree W s i = run W (extended W s i) (s .signatures) (s .extensions) (s .co
 
 -- what is left of the events after the extension itself
 abbrev pub extendStill : World → State → ℕ → ℕ
-extendStill W s i = paid (λ ev. 1) (extended W s i) (s .extensions) - 1
+extendStill W s i = paid (extended W s i) (s .extensions) - 1
 
 -- a whole run from s on, all calls together: the state now, the answers given on the way in order, the moves made. An answer makes no move
 pub data Ran (W : World) (s : State) : State → List ℕ → ℕ → Type 0 where
@@ -160,14 +167,18 @@ pub record Walked (W : World) (s r : State) : Type 0 where
   pub most : effort W r ≤ effort W s
   pub ran : (s₀ : State) (said : List ℕ) (moves : ℕ) → Ran W s₀ s said moves → (more : ℕ) × Ran W s₀ r said more
 
--- r asks or has ended; it stands for the tree t and has at most n events left to go through. Every run that came to s, with the answers `said` given
--- after that, goes on to r
-pub record Halted (W : World) (s r : State) (said : List ℕ) (t : Tree) (n : ℕ) : Type 0 where
-  pub same : treeOf W r ≡ t
+-- r asks or has ended, and stands for what the answers `said` lead to from s, with no more events left than s has. Every run that came to s, with those
+-- answers given after that, goes on to r
+pub record Halted (W : World) (s r : State) (said : List ℕ) : Type 0 where
+  pub same : treeOf W r ≡ follow (treeOf W s) said
   pub deep : r .depth < 7
-  pub most : effort W r ≤ n
+  pub most : effort W r ≤ effort W s
   pub halts : r .phase ≡ Walk → ⊥
   pub ran : (s₀ : State) (before : List ℕ) (moves : ℕ) → Ran W s₀ s before moves → (more : ℕ) × Ran W s₀ r (before ++ said) more
+
+-- the same after one answer, where s was due one
+abbrev pub Answered : World → State → ℕ → State → Type 0
+Answered W s a r = s .depth < 7 → (s .phase ≡ Walk → ⊥) → Halted W s r (a ∷ [])
 
 -- the state at the start, in a phase: Walk, or Refused where the end entity's own checks refuse it
 abbrev pub begun : ℕ → ℕ → ℕ → ℕ → Phase → State

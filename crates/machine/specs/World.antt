@@ -1,6 +1,6 @@
 -- The world of a request: what the search asks of candidates, paths and answers, as functions of the lent bytes; and the same by what is known of
 -- each certificate, which is how the machine sees it.
-use Prim.Native.Nat.{ℕ, _+_, _-_}
+use Prim.Native.Nat.{ℕ, _+_}
 use mathlib.Core.Path.{_≡_}
 use mathlib.Core.Bool.{Bool, true, false, cond}
 use mathlib.Core.List.{List, [], map}
@@ -16,7 +16,7 @@ use Rattle.asked.specs.Model.{replyIn, replyOf}
 use Rattle.path.specs.Model.{checkIn, checkOn}
 use Rattle.candidate.specs.Model.{verdictIn, verdictOn}
 use Rattle.entries.specs.Tally.{Tally, clean}
-use Rattle.subtrees.specs.Noted.{Noted, noted}
+use Rattle.constraints.specs.Paths.{notedOf}
 use Rattle.constraints.specs.Model.{pathConstraintsIn, pathConstraints}
 use Rattle.dialogue.specs.Model.{Path, World, signatures}
 
@@ -31,10 +31,6 @@ meaningOf answer =
     (cond (eqb answer 3) unsupportedSignatureAlgorithmForPublicKey (cond (eqb answer 4) badDer invalidSignatureForPublicKey)))
 
 -- ---- name constraints
--- a candidate's number without the anchors before it; what is no intermediate's is past them all
-unfoldable pub loweredOf : ℕ → ℕ → ℕ → ℕ
-loweredOf anchors intermediates n = cond (ltb n anchors) intermediates (n - anchors)
-
 -- whether an anchor has any, whose content is then in `constraints`
 unfoldable pub isBound : List (List ℕ) → List ℕ → ℕ → Bool
 isBound constraints bound anchor =
@@ -48,10 +44,6 @@ namesOf issuers end anchors constraints bound anchor path =
 unfoldable pub constrainedAs : Outlined → Bool
 constrainedAs (Is o) = o .constrained
 constrainedAs (Refused e) = true
-
--- the certificate with a number, and what is known of it
-abbrev pub notedOf : (ℕ → Reading) → List (List ℕ) → List ℕ → ℕ → ℕ → Noted
-notedOf known issuers end anchors n = noted (certificateOf issuers end anchors n) (known n)
 
 -- the name constraints of a path by what is known; one on which nobody is known to have any is not looked at
 unfoldable pub namesIn : (ℕ → Reading) → List (List ℕ) → List ℕ → ℕ → List (List ℕ) → List ℕ → ℕ → Path → Tally

@@ -1,6 +1,6 @@
 -- What the code answers, as functions of the bytes: the same tests in the same order.
-use Prim.Native.Nat.{ℕ, _-_, _*_, _/_, _%_}
-use mathlib.Core.List.{List, _∷_}
+use Prim.Native.Nat.{ℕ}
+use mathlib.Core.List.{List}
 use mathlib.Core.Bool.{Bool, true, false, cond}
 use lib.Dec.{eqb}
 use Rattle.dns.specs.declared.Answer.{Answer}

@@ -34,7 +34,7 @@ fn check_certificate(
 // identifier, and `demanded` says that a certificate must list it.
 pub fn check<'a>(
     table: &[[usize; 37]],
-    issuers: &'a [&'a [u8]],
+    issuers: &[&'a [u8]],
     end: &'a [u8],
     anchors: usize,
     distrusted: &[&[u8]],

@@ -1,6 +1,6 @@
 -- The values of a function at 0, 1, .. as a list: a constant array that is this list has the function's value at each place. Assumes nothing.
 use Prim.Native.Nat.{ℕ, zero, suc, _+_, _<_}
-use mathlib.Core.Path.{_≡_, refl}
+use mathlib.Core.Path.{_≡_}
 use mathlib.Core.List.{List, [], _∷_}
 use lib.ListN.{getD}
 use native.Mathlib.Omega.{arith}

@@ -1,6 +1,6 @@
 -- Which of two refusals is kept, as a function of their numbers.
 use Prim.Native.Nat.{ℕ}
-use mathlib.Core.Bool.{Bool, cond}
+use mathlib.Core.Bool.{cond}
 use lib.Dec.{ltb}
 use Rattle.refusal.specs.Refusals.{rankOf}
 

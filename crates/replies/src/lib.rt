@@ -6,7 +6,6 @@ use machine::State;
 use rows::Outlined;
 ghost use mathlib.Core.Path.{_≡_};
 ghost use mathlib.Core.List.{List, map};
-ghost use lib.ListN.{getD};
 ghost use Prim.Native.Nat.{ℕ, _<_};
 ghost use Rattle.rows.specs.Model.{outlined};
 ghost use Rattle.lent.specs.Lent.{readingsIn, pre, someOf};
@@ -15,7 +14,7 @@ ghost use Rattle.machine.specs.declared.Phase.the-variants.{Walk, Ask, Offer};
 ghost use Rattle.dialogue.specs.Model.{World};
 ghost use Rattle.dialogue.specs.Dialogue.{give};
 ghost use Rattle.machine.specs.Machine.{placeOf, keyAt, whatAt, treeOf, effort, Heard};
-ghost use Rattle.machine.specs.World.{meaningOf, loweredOf, isBound, constrainedAs, namesIn, Judges};
+ghost use Rattle.machine.specs.World.{meaningOf, isBound, constrainedAs, namesIn, Judges};
 
 // The refusal that an answer stands for, or 0. That a key cannot be read is a general one here: the key itself is asked for a better.
 fn meaning(answer: u16) -> u16
@@ -34,28 +33,6 @@ fn meaning(answer: u16) -> u16
         return refusal::BAD_DER;
     }
     refusal::INVALID_SIGNATURE_FOR_PUBLIC_KEY
-}
-
-// A candidate's number with the anchors left out; what is no intermediate's is the end entity's.
-fn lower_number(number: usize, anchors: usize, intermediates: usize) -> usize
-    ensures { λ r. ⌜ r ≡ loweredOf anchors intermediates number ⌝ }
-{
-    if number < anchors {
-        return intermediates;
-    }
-    number - anchors
-}
-
-fn lower_path(numbers: [usize; 7], anchors: usize, intermediates: usize) -> [usize; 7]
-    ensures { λ r. ⌜ ((k : ℕ) → k < 7 → getD r k 0 ≡ loweredOf anchors intermediates (getD numbers k 0)) ⌝ }
-{
-    let mut lowered = [0usize; 7];
-    let mut i: usize = 0;
-    while i < 7 {
-        lowered[i] = lower_number(lent::number_at(numbers, i), anchors, intermediates);
-        i += 1;
-    }
-    lowered
 }
 
 // Whether an anchor has name constraints.
@@ -84,7 +61,7 @@ fn is_constrained(outline: Outlined) -> bool
 // The same of some certificate of a path.
 fn some_constrained<'a>(
     table: &[[usize; 37]],
-    issuers: &'a [&'a [u8]],
+    issuers: &[&'a [u8]],
     end: &'a [u8],
     anchors: usize,
     numbers: [usize; 7],
@@ -108,7 +85,7 @@ fn some_constrained<'a>(
 // The name constraints of a path at an anchor.
 fn names<'a>(
     table: &[[usize; 37]],
-    issuers: &'a [&'a [u8]],
+    issuers: &[&'a [u8]],
     end: &'a [u8],
     constraints: &[&[u8]],
     bound: &[u8],
@@ -121,13 +98,32 @@ fn names<'a>(
     requires { ⌜ depth < 7 ⌝ }
     ensures { λ r. ⌜ r ≡ spend left (namesIn (readingsIn (now (table .entry)) (map now (now (issuers .entry))) (now (end .entry)) anchors) (map now (now (issuers .entry))) (now (end .entry)) anchors (map now (now (constraints .entry))) (now (bound .entry)) anchor (pre numbers depth)) ⌝ }
 {
-    let lowered = lower_path(numbers, anchors, issuers.len());
     if is_bound(constraints, bound, anchor) {
         let t = constraints[anchor];
-        return constraints::path_constraints(table, issuers, end, lowered, depth, t, true, left);
+        return constraints::path_constraints(
+            table,
+            issuers,
+            end,
+            anchors,
+            numbers,
+            depth,
+            t,
+            true,
+            left,
+        );
     }
     if some_constrained(table, issuers, end, anchors, numbers, depth) {
-        return constraints::path_constraints(table, issuers, end, lowered, depth, end, false, left);
+        return constraints::path_constraints(
+            table,
+            issuers,
+            end,
+            anchors,
+            numbers,
+            depth,
+            end,
+            false,
+            left,
+        );
     }
     Spent { left, refusal: 0 }
 }
@@ -135,7 +131,7 @@ fn names<'a>(
 // Every signature of the path holds: its name constraints are looked at, and it is offered.
 fn settle<'a>(
     table: &[[usize; 37]],
-    issuers: &'a [&'a [u8]],
+    issuers: &[&'a [u8]],
     end: &'a [u8],
     constraints: &[&[u8]],
     bound: &[u8],
@@ -206,7 +202,7 @@ fn ask_next(s: State, place: usize) -> State
 // The answer to a question.
 fn on_answer<'a>(
     table: &[[usize; 37]],
-    issuers: &'a [&'a [u8]],
+    issuers: &[&'a [u8]],
     end: &'a [u8],
     keys: &[&[u8]],
     constraints: &[&[u8]],
@@ -259,7 +255,7 @@ fn on_word(s: State, word: u16) -> State
 // The state after an answer, which may still have to walk. Where no answer is due it is the same.
 pub fn reply<'a>(
     table: &[[usize; 37]],
-    issuers: &'a [&'a [u8]],
+    issuers: &[&'a [u8]],
     end: &'a [u8],
     keys: &[&[u8]],
     constraints: &[&[u8]],

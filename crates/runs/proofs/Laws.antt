@@ -9,8 +9,7 @@ use Rattle.dialogue.specs.Model.{World, Tree, search}
 use Rattle.dialogue.specs.Dialogue.{give, follow}
 use Rattle.dialogue.proofs.Answers.{follow-more}
 use Rattle.machine.specs.declared.State.{State}
-use Rattle.machine.specs.declared.Phase.the-variants.{Walk}
-use Rattle.machine.specs.Machine.{treeOf, effort, Halted, begun, Started}
+use Rattle.machine.specs.Machine.{begun, Started, Answered}
 use Rattle.runs.specs.Runs.{Came}
 
 -- one more answer
@@ -25,7 +24,8 @@ module _ (W : World) (end s b n : ℕ) where
   going r h = record { same = h .same; deep = h .deep; halts = h .halts; phase = h .phase; begins = h .begins; moves = h .moves; ran = h .ran }
 
   pub goes-on : (said then : List ℕ) (u r : State) (a : ℕ) → then ≡ said ++ (a ∷ []) → Came W end s b n said u
-      → (u .depth < 7 → (u .phase ≡ Walk → ⊥) → Halted W u r (a ∷ []) (give (treeOf W u) a) (effort W u)) → Came W end s b n then r
+      → Answered W u a r → Came W end s b n then r
+  unfolding follow
   goes-on said then u r a e g h =
       let k = h (g .deep) (g .halts) in
       let m = k .ran (begun end s b n (g .phase)) said (g .moves) (g .ran) in

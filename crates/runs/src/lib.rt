@@ -10,7 +10,7 @@ ghost use Rattle.runs.specs.Runs.{Came};
 // The state that the answers, one after the other, lead to.
 pub fn run<'a>(
     table: &[[usize; 37]],
-    issuers: &'a [&'a [u8]],
+    issuers: &[&'a [u8]],
     end: &'a [u8],
     subjects: &[&[u8]],
     keys: &[&[u8]],

@@ -2,14 +2,11 @@
 use lent::MOST_INTERMEDIATES;
 use machine::Phase;
 use machine::State;
-ghost use mathlib.Core.Path.{_≡_};
-ghost use mathlib.Core.List.{[], _∷_, map};
+ghost use mathlib.Core.List.{map};
 ghost use lib.ListN.{length};
-ghost use Prim.Native.Nat.{_+_, _<_};
+ghost use Prim.Native.Nat.{_+_};
 ghost use Rattle.lent.specs.Lent.{readingsIn};
-ghost use Rattle.machine.specs.declared.Phase.the-variants.{Walk};
-ghost use Rattle.dialogue.specs.Dialogue.{give};
-ghost use Rattle.machine.specs.Machine.{treeOf, effort, Halted, Started};
+ghost use Rattle.machine.specs.Machine.{Answered, Started};
 ghost use Rattle.machine.specs.World.{worldIn};
 
 mod walk;
@@ -18,7 +15,7 @@ mod walk;
 // not for this key; 4: the key cannot be read. To an offer 0 is content, any other number the refusal to note.
 pub fn answer<'a>(
     table: &[[usize; 37]],
-    issuers: &'a [&'a [u8]],
+    issuers: &[&'a [u8]],
     end: &'a [u8],
     subjects: &[&[u8]],
     keys: &[&[u8]],
@@ -31,7 +28,7 @@ pub fn answer<'a>(
     s: State,
     given: u16,
 ) -> State
-    ensures { λ r. ⌜ (s .depth < 7 → (s .phase ≡ Walk → ⊥) → Halted (worldIn (readingsIn (now (table .entry)) (map now (now (issuers .entry))) (now (end .entry)) (length (now (subjects .entry)))) (map now (now (issuers .entry))) (now (end .entry)) (map now (now (subjects .entry))) (map now (now (keys .entry))) (map now (now (constraints .entry))) (now (bound .entry)) (map now (now (distrusted .entry))) time (now (wanted .entry)) demanded) s r (given ∷ []) (give (treeOf (worldIn (readingsIn (now (table .entry)) (map now (now (issuers .entry))) (now (end .entry)) (length (now (subjects .entry)))) (map now (now (issuers .entry))) (now (end .entry)) (map now (now (subjects .entry))) (map now (now (keys .entry))) (map now (now (constraints .entry))) (now (bound .entry)) (map now (now (distrusted .entry))) time (now (wanted .entry)) demanded) s) given) (effort (worldIn (readingsIn (now (table .entry)) (map now (now (issuers .entry))) (now (end .entry)) (length (now (subjects .entry)))) (map now (now (issuers .entry))) (now (end .entry)) (map now (now (subjects .entry))) (map now (now (keys .entry))) (map now (now (constraints .entry))) (now (bound .entry)) (map now (now (distrusted .entry))) time (now (wanted .entry)) demanded) s)) ⌝ }
+    ensures { λ r. ⌜ Answered (worldIn (readingsIn (now (table .entry)) (map now (now (issuers .entry))) (now (end .entry)) (length (now (subjects .entry)))) (map now (now (issuers .entry))) (now (end .entry)) (map now (now (subjects .entry))) (map now (now (keys .entry))) (map now (now (constraints .entry))) (now (bound .entry)) (map now (now (distrusted .entry))) time (now (wanted .entry)) demanded) s given r ⌝ }
 {
     if MOST_INTERMEDIATES < s.depth {
         return s;
@@ -51,24 +48,28 @@ pub fn answer<'a>(
         s,
         given,
     );
-    walk::advance(
-        table,
-        issuers,
-        end,
-        subjects,
-        keys,
-        distrusted,
-        time,
-        wanted,
-        demanded,
-        t,
-    )
+    let going = t.phase;
+    if let Phase::Walk = going {
+        return walk::advance(
+            table,
+            issuers,
+            end,
+            subjects,
+            keys,
+            distrusted,
+            time,
+            wanted,
+            demanded,
+            t,
+        );
+    }
+    t
 }
 
 // The first question, or the end: the search for a path to the end entity.
 pub fn start<'a>(
     table: &[[usize; 37]],
-    issuers: &'a [&'a [u8]],
+    issuers: &[&'a [u8]],
     end: &'a [u8],
     subjects: &[&[u8]],
     keys: &[&[u8]],

@@ -6,8 +6,9 @@ use mathlib.Core.List.{List}
 use borrow.Author.Tests.{eq-eqb, ne-eqb}
 use Rattle.cert.specs.declared.Reading.{Reading}
 use Rattle.machine.specs.declared.State.{State}
+use Rattle.wanted.specs.Model.{nameBy}
 use Rattle.steps.specs.declared.Step.{Step}
-use Rattle.steps.specs.Model.{numberOf, refusalOf, nameBy, isFound, stepOf, shownAs}
+use Rattle.steps.specs.Model.{numberOf, refusalOf, isFound, stepOf, shownAs}
 
 -- what is said of the name, by what is known of the end entity
 pub named-by : (r g : Reading) (end : List ℕ) (kind : ℕ) (name : List ℕ) (x : ℕ) → r ≡ g → x ≡ nameBy r end kind name → x ≡ nameBy g end kind name

@@ -1,12 +1,9 @@
 -- What a step is: the state of the search that it holds, and the step that a state is shown as.
 use Prim.Native.Nat.{ℕ}
 use mathlib.Core.Bool.{Bool, true, false, cond}
-use mathlib.Core.List.{List, [], _∷_}
+use mathlib.Core.List.{[], _∷_}
 use lib.Dec.{ltb, eqb}
 use Rattle.refusal.specs.Refusals.{maximumPathDepthExceeded}
-use Rattle.cert.specs.declared.Reading.{Reading}
-use Rattle.path.specs.Model.{onReading}
-use Rattle.conditions.specs.Model.{nameIn}
 use Rattle.machine.specs.declared.State.{State}
 use Rattle.machine.specs.declared.Phase.{Phase}
 use Rattle.machine.specs.declared.Phase.the-variants.{Walk, Ask, Offer, Found, Refused, Spent}
@@ -61,10 +58,6 @@ stepOf s phase e = record {
   phase = phase;
   refusal = e;
 }
-
--- the refusal of the name, or none, by what is known of the end entity
-unfoldable pub nameBy : Reading → List ℕ → ℕ → List ℕ → ℕ
-nameBy r end kind name = onReading r (λ e. e) (nameIn end kind name)
 
 unfoldable pub isFound : Phase → Bool
 isFound Walk = false

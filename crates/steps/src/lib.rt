@@ -4,9 +4,8 @@ use machine::Phase;
 use machine::State;
 ghost use mathlib.Core.Path.{_≡_};
 ghost use Rattle.table.specs.Model.{readingIn};
-ghost use Rattle.steps.specs.Model.{phaseOf, numberOf, refusalOf, nameBy, isFound, stateOf, stepOf, shownAs, endedStep};
-
-pub mod name;
+ghost use Rattle.wanted.specs.Model.{nameBy};
+ghost use Rattle.steps.specs.Model.{phaseOf, numberOf, refusalOf, isFound, stateOf, stepOf, shownAs, endedStep};
 
 // What a step is: a question (whether a key signed a certificate), an offer (a path that only the caller can still refuse), or an end.
 // SPENT: a budget was used up, so nothing is said about the paths that were not looked at.
@@ -168,7 +167,7 @@ pub fn shown(table: &[[usize; 37]], i: usize, end: &[u8], kind: u8, name: &[u8],
     let ph = s.phase;
     if is_found(ph) {
         let reading = table::reading(table, i, end);
-        let e = crate::name::refusal_for(reading, end, kind, name);
+        let e = wanted::refusal_for(reading, end, kind, name);
         if e != 0 {
             return step_of(s, REFUSED, e);
         }

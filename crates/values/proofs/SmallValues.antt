@@ -1,21 +1,19 @@
 -- THEOREMS: BOOLEAN and INTEGER are accepted in exactly the encodings of X.690, a false also where it is written or absent. Assumes nothing.
-use Prim.Native.Nat.{ℕ, zero, suc, _+_, _-_, _*_, _^_, _≤_, _<_}
+use Prim.Native.Nat.{ℕ, suc, _+_, _-_, _*_, _^_, _≤_, _<_}
 use mathlib.Core.Path.{_≡_, refl, sym, ap, _∙_}
-use mathlib.Core.List.{List, [], _∷_, _++_}
+use mathlib.Core.List.{List, [], _∷_}
 use mathlib.Core.Bool.{Bool, true, false, cond}
 use mathlib.Core.Logic.{⊎-elim, _⊎_, inl, inr}
 use lib.ListN.{length, getD}
 use lib.Dec.{ltb, leb, eqb, lit<}
 use native.Mathlib.Omega.{arith}
 use native.Mathlib.Nat.{pow-suc, pow-le-pow-right, mul-le-mul-right}
-use borrow.Author.Tests.{ltb-true, ltb-false, leb-true, leb-false, eqb-true, eqb-false, le-ltb, lt-leb}
+use borrow.Author.Tests.{ltb-true, ltb-false, leb-true, leb-false, eqb-true, eqb-false, le-ltb}
 use Rattle.refusal.specs.Refusals.{badDer, trailingBool}
 use Rattle.der.specs.declared.Span.{Span}
 use Rattle.der.specs.declared.Got.{Got}
 use Rattle.der.specs.declared.Got.the-variants.{Content, Refused as NoContent}
-use Rattle.values.specs.declared.Truth.{Truth}
 use Rattle.values.specs.declared.Truth.the-variants.{Is as Said, Refused as NoTruth}
-use Rattle.values.specs.declared.Small.{Small}
 use Rattle.values.specs.declared.Small.the-variants.{Number, Refused as NoNumber}
 use Rattle.der.specs.Places.{Bytes, part}
 use Rattle.der.specs.X690.{encoding, truth, valueOf, Natural}
@@ -24,7 +22,7 @@ use Rattle.values.specs.Model.{onlyByte, truthIn, readBool, positiveIn, 
 use Rattle.der.proofs.Laws.{tests, value-expect, lt-or-le}
 use Rattle.der.proofs.Invert.{peel, either}
 use Rattle.der.proofs.Parts.{part-length, part-at, part-cons, part-none, part-tail}
-use Rattle.der.proofs.Laid.{Laid, expect-laid, Found, laid-read}
+use Rattle.der.proofs.Laid.{expect-laid, laid-read}
 
 -- the octets stand at `from` and end at `next`, before `to`
 pub record There (s : List ℕ) (from to next : ℕ) (octets : List ℕ) : Type 0 where

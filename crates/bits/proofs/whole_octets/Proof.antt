@@ -1,4 +1,3 @@
-use native.Mathlib.Omega.{arith}
 use Rattle.der.proofs.Laws.{tests}
 use Rattle.bits.specs.Model.{wholeOctets}
 use borrow.Author.Needs.{needs}

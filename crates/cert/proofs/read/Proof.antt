@@ -1,8 +1,10 @@
+-- `cert::read` meets its contract. Assumes nothing.
 use Rattle.extensions.specs.Model.{onKept}
 use Rattle.envelope.specs.Model.{onParts, onBegun}
+use Rattle.cert.specs.declared.Reading.the-variants.{Accepted}
 use Rattle.cert.specs.Model.{readCertificate, onFound}
 use Rattle.cert.proofs.Cases.{read-case}
-use mathlib.Core.Path.{sym, _∙_}
+use mathlib.Core.Path.{sym, _∙_, ap}
 use Rattle.cert.proofs.read.Statement.{statement}
 use Rattle.cert.proofs.read.Tie as tie
 
@@ -93,13 +95,17 @@ returns-4 c =
       fourth .e4 .given .1,
     )
 
+whole-requires : tie.Need-whole-requires
+whole-requires c κs = tt
+
 returns-5 : tie.Need-returns-5
 returns-5 c =
-    let fourth = c .before .before .before .before .before .before .before .before in
+    let fourth = c .before .before in
     let third = fourth .before .before .before .before .before in
     let second = third .before .before .before .before .before in
     let first = second .before .before .before .before .before in
-    sym
+    ap Accepted (c .whole .ensures)
+    ∙ sym
     (read-case _ _
     (sym (first .before .before .envelope-of .ensures) ∙ first .p .given .1)
     (sym (second .before .before .begin .ensures) ∙ second .p2 .given .1)
@@ -126,4 +132,5 @@ read-spec =
     enum-known-k
     enum-known-e-4
     returns-4
+    whole-requires
     returns-5)

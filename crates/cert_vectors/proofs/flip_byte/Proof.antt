@@ -1,5 +1,4 @@
 -- `cert_vectors::flip_byte` is safe and ends. Assumes nothing.
-use Prim.Native.Nat.{_-_}
 use mathlib.Core.Path.{_≡_}
 use lib.ListN.{length}
 use borrow.Author.Needs.{needs}

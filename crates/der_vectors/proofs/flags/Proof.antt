@@ -1,6 +1,5 @@
 -- `der_vectors::flags` is safe and ends. Assumes nothing.
 use Prim.Native.Nat.{_≤_, _-_}
-use native.Mathlib.Omega.{arith}
 use borrow.Author.Needs.{needs}
 use Rattle.der_vectors.proofs.flags.Statement.{statement}
 use Rattle.der_vectors.proofs.flags.Tie as tie

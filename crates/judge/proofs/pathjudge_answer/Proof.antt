@@ -2,7 +2,7 @@
 use denote.Ref.{now}
 use lib.ListN.{length-map}
 use mathlib.Core.Path.{sym}
-use Rattle.judge.proofs.Laws.{shown-held, halted-held, answer-at}
+use Rattle.judge.proofs.Laws.{shown-held, answered-held, answer-at}
 use Rattle.judge.proofs.pathjudge_answer.Statement.{statement}
 use Rattle.judge.proofs.pathjudge_answer.Tie as tie
 
@@ -18,7 +18,7 @@ shown-requires c κs = tt
 returns : tie.Need-returns
 returns c h =
     let a = c .before .before .before .before .before .before .before .args in
-    answer-at _ _ _ _ _ _ (c .before .before .state-of .ensures) (shown-held _ _ _ h _ (sym (length-map (a .issuers .now) now)) _ _ _ _ (c .shown .ensures)) (halted-held _ _ _ h _ _ _ _ _ _ _ _ _ (sym (length-map (a .subjects .now) now)) _ _ _ (c .before .answer .ensures))
+    answer-at _ _ _ _ _ _ (c .before .before .state-of .ensures) (shown-held _ _ _ h _ (sym (length-map (a .issuers .now) now)) _ _ _ _ (c .shown .ensures)) (answered-held _ _ _ h _ _ _ _ _ _ _ _ _ (sym (length-map (a .subjects .now) now)) _ _ _ (c .before .answer .ensures))
 
 pub pathjudge-answer-spec : {M : Type 1} → statement M
 pathjudge-answer-spec =

@@ -1,6 +1,5 @@
 -- `judge::pathjudge_question` meets its contract. Assumes nothing.
-use Rattle.judge.specs.Places.{nowhere, askedOf}
-use Rattle.judge.proofs.Laws.{asked-whole, asked-unopened, question-told}
+use Rattle.judge.proofs.Laws.{question-told}
 use Rattle.judge.proofs.pathjudge_question.Statement.{statement}
 use Rattle.judge.proofs.pathjudge_question.Tie as tie
 
@@ -10,54 +9,11 @@ state-of-requires c κs = tt
 asked-requires : tie.Need-asked-requires
 asked-requires c κs = tt
 
-question-of-requires : tie.Need-question-of-requires
-question-of-requires c κs = tt
-
-enum-known-signed : tie.Need-enum-known-signed
-enum-known-signed c = c .match .keys1
-
-enum-known-parts : tie.Need-enum-known-parts
-enum-known-parts c = c .match2 .keys1
-
-filled-requires : tie.Need-filled-requires
-filled-requires c κs = tt
-
-enum-known-parts-2 : tie.Need-enum-known-parts-2
-enum-known-parts-2 c = c .match2 .keys2
-
-filled-requires-2 : tie.Need-filled-requires-2
-filled-requires-2 c κs = tt
-
-enum-known-e : tie.Need-enum-known-e
-enum-known-e c = c .match .keys2
-
-filled-requires-3 : tie.Need-filled-requires-3
-filled-requires-3 c κs = tt
+question-requires : tie.Need-question-requires
+question-requires c κs = tt
 
 returns : tie.Need-returns
-returns c h = question-told _ _ _ _ _ _ _ _ _ _ (c .before .before .before .before .before .before .before .before .before .state-of .ensures) (c .before .before .before .before .before .before .before .before .asked .ensures) (c .before .before .before .before .before .before .before .question-of .ensures) (asked-whole _ _ _ _ _ _ _ _ 0 _ _ (c .before .before .before .before .before .signed .given .1) (c .before .before .parts .given .1) (c .filled .ensures)) h
-
-returns-2 : tie.Need-returns-2
-returns-2 c h = question-told _ _ _ _ _ _ _ _ _ _ (c .before .before .before .before .before .before .before .before .before .state-of .ensures) (c .before .before .before .before .before .before .before .before .asked .ensures) (c .before .before .before .before .before .before .before .question-of .ensures) (asked-unopened _ _ _ _ _ _ nowhere nowhere _ _ _ (c .before .before .before .before .before .signed .given .1) (c .before .before .parts2 .given .1) (c .filled2 .ensures)) h
-
-returns-3 : tie.Need-returns-3
-unfolding askedOf
-returns-3 c h = question-told _ _ _ _ _ _ _ _ _ _ (c .before .before .before .before .before .before .state-of .ensures) (c .before .before .before .before .before .asked .ensures) (c .before .before .before .before .question-of .ensures) (rw (c .before .before .e .given .1) (c .filled3 .ensures)) h
+returns c h = question-told _ _ _ _ _ _ _ _ _ (c .before .before .state-of .ensures) (c .before .asked .ensures) (c .question .ensures) h
 
 pub pathjudge-question-spec : {M : Type 1} → statement M
-pathjudge-question-spec =
-    tie.close
-    (tie.spec
-    state-of-requires
-    asked-requires
-    question-of-requires
-    enum-known-signed
-    enum-known-parts
-    filled-requires
-    enum-known-parts-2
-    filled-requires-2
-    enum-known-e
-    filled-requires-3
-    returns
-    returns-2
-    returns-3)
+pathjudge-question-spec = tie.close (tie.spec state-of-requires asked-requires question-requires returns)

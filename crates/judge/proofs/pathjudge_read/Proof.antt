@@ -1,5 +1,5 @@
 -- `judge::pathjudge_read` meets its contract. Assumes nothing.
-use Rattle.judge.specs.Places.{faultOf}
+use Rattle.judge.specs.Steps.{faultOf}
 use Rattle.der.proofs.Laws.{tests}
 use Rattle.judge.proofs.pathjudge_read.Statement.{statement}
 use Rattle.judge.proofs.pathjudge_read.Tie as tie

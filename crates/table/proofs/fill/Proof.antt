@@ -1,6 +1,6 @@
 use denote.Ref.{now}
 use Prim.Native.Nat.{_≤_, _-_}
-use mathlib.Core.Path.{_≡_, refl, sym, _∙_}
+use mathlib.Core.Path.{_≡_, refl}
 use mathlib.Core.List.{map}
 use lib.ListN.{length, length-set, length-map}
 use native.Mathlib.Omega.{arith}

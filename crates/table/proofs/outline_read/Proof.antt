@@ -1,5 +1,4 @@
 use Rattle.rows.specs.Model.{outlined}
-use borrow.Author.Needs.{needs}
 use Rattle.table.proofs.outline_read.Statement.{statement}
 use Rattle.table.proofs.outline_read.Tie as tie
 

@@ -1,5 +1,4 @@
 use mathlib.Core.Path.{sym, _∙_}
-use borrow.Author.Needs.{needs}
 use Rattle.table.proofs.row_of.Statement.{statement}
 use Rattle.table.proofs.row_of.Tie as tie
 

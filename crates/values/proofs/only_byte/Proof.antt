@@ -1,11 +1,8 @@
-use native.Mathlib.Omega.{arith}
 use Rattle.der.proofs.Laws.{tests}
 use Rattle.values.specs.Model.{onlyByte}
 use borrow.Author.Needs.{needs}
 use Rattle.values.proofs.only_byte.Statement.{statement}
 use Rattle.values.proofs.only_byte.Tie as tie
-use Rattle.values.proofs.only_byte.Reads as reads
-use Rattle.values.proofs.only_byte.Lts as lts
 
 sub-if1 : tie.Need-sub-if1
 sub-if1 c = search needs

@@ -1,4 +1,3 @@
-use native.Mathlib.Omega.{arith}
 use Rattle.der.proofs.Laws.{tests}
 use Rattle.values.specs.Model.{smallIn}
 use borrow.Author.Needs.{needs}

@@ -1,12 +1,8 @@
-use native.Mathlib.Omega.{arith}
 use Rattle.der.proofs.Laws.{tests}
 use Rattle.values.specs.Model.{truthIn}
 use borrow.Author.Needs.{needs}
 use Rattle.values.proofs.truth_in.Statement.{statement}
 use Rattle.values.proofs.truth_in.Tie as tie
-use Rattle.values.proofs.truth_in.Reads as reads
-use Rattle.values.proofs.truth_in.Lts as lts
-use Rattle.values.proofs.only_byte.Reads as only-byte-reads
 
 returns : tie.Need-returns
 unfolding truthIn

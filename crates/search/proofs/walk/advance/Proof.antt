@@ -1,4 +1,5 @@
 -- `search::walk::advance` meets its contract. Assumes nothing.
+use Rattle.dialogue.specs.Dialogue.{follow}
 use Rattle.machine.specs.World.{worldIn}
 use Rattle.machine.specs.Machine.{effort, Walked, Ran, move}
 use Rattle.machine.specs.declared.Phase.the-variants.{Walk}
@@ -54,6 +55,7 @@ loop-again c = (
 )
 
 returns : tie.Need-returns Inv-loop μ-loop
+unfolding follow
 returns c C B =
     let i = c .before .loop .inv in
     let a = c .before .before .before .before .args in

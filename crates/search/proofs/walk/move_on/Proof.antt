@@ -1,5 +1,5 @@
 -- `search::walk::move_on` meets its contract. Assumes nothing.
-use Rattle.machine.proofs.Moves.{over, pops, notes, tries, extends}
+use Rattle.machine.proofs.Moves.{notes, tries, extends}
 use Rattle.machine.specs.World.{worldIn}
 use Rattle.path.specs.Model.{checkIn}
 use lib.ListN.{length, length-map}
@@ -25,24 +25,14 @@ array-read-i c = search needs
 add-if1 : tie.Need-add-if1
 add-if1 c = search needs
 
+leave-requires : tie.Need-leave-requires
+leave-requires c κs = c .before .before .before .before .before .pre
+
 returns : tie.Need-returns
 unfolding worldIn
 returns c C B =
-    let a = c .before .before .before .before .before .before .before .before .args in
-    let p = c .before .before .before .before .before .before .before .before .pre in
-    let W = worldIn (readingsIn (a .table .now) (map now (a .issuers .now)) (a .end .now) (length (a .subjects .now))) (map now (a .issuers .now)) (a .end .now) (map now (a .subjects .now)) (map now (a .keys .now)) C B (map now (a .distrusted .now)) (a .time) (a .wanted .now) (a .demanded) in
-    over W (a .s) (p .0) (p .1) (omega (arith, c .before .before .before .if1 .taken, length-map (a .subjects .now) now, length-map (a .issuers .now) now)) (c .before .before .if2 .taken)
-
-sub-t36 : tie.Need-sub-t36
-sub-t36 c = search needs
-
-returns-2 : tie.Need-returns-2
-unfolding worldIn
-returns-2 c C B =
-    let a = c .before .before .before .before .before .before .before .before .args in
-    let p = c .before .before .before .before .before .before .before .before .pre in
-    let W = worldIn (readingsIn (a .table .now) (map now (a .issuers .now)) (a .end .now) (length (a .subjects .now))) (map now (a .issuers .now)) (a .end .now) (map now (a .subjects .now)) (map now (a .keys .now)) C B (map now (a .distrusted .now)) (a .time) (a .wanted .now) (a .demanded) in
-    pops W (a .s) (p .0) (p .1) (omega (arith, c .before .before .before .if1 .taken, length-map (a .subjects .now) now, length-map (a .issuers .now) now)) (c .before .before .if2 .left)
+    let a = c .before .before .before .before .before .before .args in
+    c .leave .ensures _ (omega (arith, c .before .if1 .taken, length-map (a .subjects .now) now, length-map (a .issuers .now) now))
 
 add-next : tie.Need-add-next
 add-next c = search needs
@@ -54,33 +44,41 @@ array-write-next : tie.Need-array-write-next
 array-write-next c = search needs
 
 verdict-on-requires : tie.Need-verdict-on-requires
-verdict-on-requires c κs = search needs
+verdict-on-requires c κs = tt
 
 enum-known-e : tie.Need-enum-known-e
-enum-known-e c = search needs
+enum-known-e c = c .match .keys1
 
-worse-requires : tie.Need-worse-requires
-worse-requires c κs = search needs
+note-requires : tie.Need-note-requires
+note-requires c κs = tt
 
 enum-told : tie.Need-enum-told
-enum-told c = search needs
+enum-told c = c .match .keys2
 
-begin-requires : tie.Need-begin-requires
-begin-requires c κs = search needs
+anchor-requires : tie.Need-anchor-requires
+anchor-requires c κs = tt
 
 enum-told-2 : tie.Need-enum-told-2
-enum-told-2 c = search needs
+enum-told-2 c = c .match .keys3
 
 extend-requires : tie.Need-extend-requires
-extend-requires c κs = search needs
+extend-requires c κs = tt
+
+returns-2 : tie.Need-returns-2
+unfolding worldIn
+returns-2 c C B =
+    let a = c .before .before .before .before .before .before .before .before .before .before .before .args in
+    let p = c .before .before .before .before .before .before .before .before .before .before .before .pre in
+    let W = worldIn (readingsIn (a .table .now) (map now (a .issuers .now)) (a .end .now) (length (a .subjects .now))) (map now (a .issuers .now)) (a .end .now) (map now (a .subjects .now)) (map now (a .keys .now)) C B (map now (a .distrusted .now)) (a .time) (a .wanted .now) (a .demanded) in
+    notes W (a .s) (p .0) (p .1) (omega (arith, c .before .before .before .before .before .before .if1 .left, length-map (a .subjects .now) now, length-map (a .issuers .now) now)) (long (c .before .before .before .before .before .before .before .before .before .before .before)) (c .note .result) _ (c .note .ensures) (sym (c .before .before .before .before .verdict-on .ensures) ∙ c .before .before .e .given .1)
 
 returns-3 : tie.Need-returns-3
 unfolding worldIn
 returns-3 c C B =
-    let a = c .before .before .before .before .before .before .before .before .before .before .before .before .before .args in
-    let p = c .before .before .before .before .before .before .before .before .before .before .before .before .before .pre in
+    let a = c .before .before .before .before .before .before .before .before .before .before .args in
+    let p = c .before .before .before .before .before .before .before .before .before .before .pre in
     let W = worldIn (readingsIn (a .table .now) (map now (a .issuers .now)) (a .end .now) (length (a .subjects .now))) (map now (a .issuers .now)) (a .end .now) (map now (a .subjects .now)) (map now (a .keys .now)) C B (map now (a .distrusted .now)) (a .time) (a .wanted .now) (a .demanded) in
-    notes W (a .s) (p .0) (p .1) (omega (arith, c .before .before .before .before .before .before .before .before .if1 .left, length-map (a .subjects .now) now, length-map (a .issuers .now) now)) (long (c .before .before .before .before .before .before .before .before .before .before .before .before .before)) (c .before .before .before .before .e .given .0 .0) (c .before .before .worse .result) (c .before .before .worse .ensures) (sym (c .before .before .before .before .before .before .verdict-on .ensures) ∙ c .before .before .before .before .e .given .1)
+    tries W (a .s) (p .0) (p .1) (omega (arith, c .before .before .before .before .before .if1 .left, length-map (a .subjects .now) now, length-map (a .issuers .now) now)) (long (c .before .before .before .before .before .before .before .before .before .before)) (c .anchor .result) (sym (c .before .before .before .verdict-on .ensures) ∙ c .before .enum-told .given .1) (c .anchor .ensures (p .0) W (λ k q. refl))
 
 returns-4 : tie.Need-returns-4
 unfolding worldIn
@@ -88,16 +86,8 @@ returns-4 c C B =
     let a = c .before .before .before .before .before .before .before .before .before .before .args in
     let p = c .before .before .before .before .before .before .before .before .before .before .pre in
     let W = worldIn (readingsIn (a .table .now) (map now (a .issuers .now)) (a .end .now) (length (a .subjects .now))) (map now (a .issuers .now)) (a .end .now) (map now (a .subjects .now)) (map now (a .keys .now)) C B (map now (a .distrusted .now)) (a .time) (a .wanted .now) (a .demanded) in
-    tries W (a .s) (p .0) (p .1) (omega (arith, c .before .before .before .before .before .if1 .left, length-map (a .subjects .now) now, length-map (a .issuers .now) now)) (long (c .before .before .before .before .before .before .before .before .before .before)) (c .begin .result) (sym (c .before .before .before .verdict-on .ensures) ∙ c .before .enum-told .given .1) (c .begin .ensures W (λ k q. refl))
-
-returns-5 : tie.Need-returns-5
-unfolding worldIn
-returns-5 c C B =
-    let a = c .before .before .before .before .before .before .before .before .before .before .args in
-    let p = c .before .before .before .before .before .before .before .before .before .before .pre in
-    let W = worldIn (readingsIn (a .table .now) (map now (a .issuers .now)) (a .end .now) (length (a .subjects .now))) (map now (a .issuers .now)) (a .end .now) (map now (a .subjects .now)) (map now (a .keys .now)) C B (map now (a .distrusted .now)) (a .time) (a .wanted .now) (a .demanded) in
     extends W (a .s) (p .0) (p .1) (omega (arith, c .before .before .before .before .before .if1 .left, length-map (a .subjects .now) now, length-map (a .issuers .now) now)) (long (c .before .before .before .before .before .before .before .before .before .before)) (c .extend .result) (sym (c .before .before .before .verdict-on .ensures) ∙ c .before .enum-told2 .given .1)
-    (c .extend .ensures W (λ q. ap (λ (n : ℕ). checkIn (readingsIn (a .table .now) (map now (a .issuers .now)) (a .end .now) (length (a .subjects .now))) (map now (a .issuers .now)) (a .end .now) n (map now (a .distrusted .now)) (a .time) (a .wanted .now) (a .demanded) q) (length-map (a .subjects .now) now)))
+    (c .extend .ensures (p .0) (p .1) W (λ q. ap (λ (n : ℕ). checkIn (readingsIn (a .table .now) (map now (a .issuers .now)) (a .end .now) (length (a .subjects .now))) (map now (a .issuers .now)) (a .end .now) n (map now (a .distrusted .now)) (a .time) (a .wanted .now) (a .demanded) q) (length-map (a .subjects .now) now)))
 
 pub move-on-spec : {M : Type 1} → statement M
 move-on-spec =
@@ -106,19 +96,18 @@ move-on-spec =
     mul-i
     array-read-i
     add-if1
+    leave-requires
     returns
-    sub-t36
-    returns-2
     add-next
     mul-next
     array-write-next
     verdict-on-requires
     enum-known-e
-    worse-requires
+    note-requires
     enum-told
-    begin-requires
+    anchor-requires
     enum-told-2
     extend-requires
+    returns-2
     returns-3
-    returns-4
-    returns-5)
+    returns-4)

@@ -31,7 +31,7 @@ extern "C" {
 /* What a step is. */
 enum {
     PATHJUDGE_ASK = 1,     /* did a key sign a certificate? see pathjudge_question */
-    PATHJUDGE_OFFER = 2,   /* a path that keeps every rule: is the caller content with it? */
+    PATHJUDGE_OFFER = 2,   /* a path that meets every condition but the wanted name, which is checked after this: is the caller content? */
     PATHJUDGE_FOUND = 3,   /* an end: there is a path */
     PATHJUDGE_REFUSED = 4, /* an end: there is none, and `refusal` says why */
     PATHJUDGE_SPENT = 5    /* an end: `refusal` says which budget was used up, and nothing is said about paths that were not looked at */
@@ -84,6 +84,7 @@ typedef struct {
     size_t next[PATHJUDGE_MOST_CERTIFICATES]; /* which candidate comes next, above each of them */
     size_t depth;
     size_t at;     /* the place in the path of the certificate that is asked about */
+    size_t list;   /* 0: the question is about that certificate. No search asks about anything else */
     size_t anchor; /* the anchor that is tried, or was found */
     uint64_t signatures; /* what is left of the budgets */
     uint64_t extensions;
@@ -119,11 +120,11 @@ PATHJUDGE_ASSERT(sizeof(size_t) == 8);
 PATHJUDGE_ASSERT(sizeof(pathjudge_bytes) == 16);
 PATHJUDGE_ASSERT(offsetof(pathjudge_bytes, length) == 8);
 PATHJUDGE_ASSERT(sizeof(pathjudge_row) == 296);
-PATHJUDGE_ASSERT(sizeof(pathjudge_step) == 168);
+PATHJUDGE_ASSERT(sizeof(pathjudge_step) == 176);
 PATHJUDGE_ASSERT(offsetof(pathjudge_step, depth) == 112);
-PATHJUDGE_ASSERT(offsetof(pathjudge_step, signatures) == 136);
-PATHJUDGE_ASSERT(offsetof(pathjudge_step, best) == 160);
-PATHJUDGE_ASSERT(offsetof(pathjudge_step, refusal) == 164);
+PATHJUDGE_ASSERT(offsetof(pathjudge_step, signatures) == 144);
+PATHJUDGE_ASSERT(offsetof(pathjudge_step, best) == 168);
+PATHJUDGE_ASSERT(offsetof(pathjudge_step, refusal) == 172);
 PATHJUDGE_ASSERT(sizeof(pathjudge_asked) == 104);
 PATHJUDGE_ASSERT(offsetof(pathjudge_asked, signed_part) == 16);
 PATHJUDGE_ASSERT(offsetof(pathjudge_asked, key_bits) == 80);
@@ -135,7 +136,8 @@ PATHJUDGE_ASSERT(offsetof(pathjudge_trusted, bound) == 50);
 /* What a request lends, in every function that leads to a step:
  * - intermediates, in the order in which they are tried, and the end entity: certificates, as DER;
  * - anchors in columns, in the order in which they are tried: subjects, keys (each the content of its SEQUENCE), name constraints, and for each
- *   anchor whether it has such (0: none);
+ *   anchor whether it has such (0: none). There are as many anchors as subjects. Where another column is shorter: an anchor without a key is never
+ *   used, nor is one that is said to have name constraints and has no entry for them; one of which nothing is said has none;
  * - keys that may occur nowhere, as contents;
  * - the time that counts, in seconds since 1970;
  * - the wanted purpose, an object identifier's content, and whether (not 0) a certificate that lists no purpose is refused;

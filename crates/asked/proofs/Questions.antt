@@ -1,8 +1,8 @@
 -- A question's places are those of the certificate's skeleton, and no answer comes to yes where the key cannot be read. Assumes nothing.
-use Prim.Native.Nat.{ℕ}
+use Prim.Native.Nat.{ℕ, suc, _<_}
 use mathlib.Core.Path.{_≡_, refl, sym, ap, _∙_}
 use mathlib.Core.List.{List, []}
-use mathlib.Core.Bool.{true}
+use mathlib.Core.Bool.{true, cond}
 use mathlib.Core.Logic.{⊎-elim}
 use lib.ListN.{length, getD}
 use lib.Dec.{lit<, ltb, eqb}
@@ -10,7 +10,7 @@ use native.Mathlib.Omega.{arith}
 use borrow.Author.Tests.{ltb-true, ltb-false, lt-ltb, le-ltb, eqb-true}
 use Rattle.refusal.specs.Refusals.{badDer, unsupportedSignatureAlgorithm}
 use Rattle.der.specs.declared.Span.{Span}
-use Rattle.der.specs.Places.{Bytes, part}
+use Rattle.der.specs.Places.{Bytes, part, LIMIT}
 use Rattle.der.specs.Model.{expectAt}
 use Rattle.bits.specs.Model.{bitsAt}
 use Rattle.der.proofs.Invert.{either}
@@ -19,13 +19,14 @@ use Rattle.cert.specs.declared.Reading.the-variants.{Accepted, Refused as NoCer
 use Rattle.cert.specs.declared.key.Key.{Key}
 use Rattle.cert.specs.declared.key.Key.the-variants.{Parts as KeyParts, Refused as NoKey}
 use Rattle.cert.specs.Model.{readCertificate, keyParts}
-use Rattle.extensions.proofs.Value.{part-whole}
+use Rattle.der.proofs.Parts.{part-whole}
 use Rattle.cert.proofs.Sound.{sound}
 use Rattle.cert.specs.Rfc5280.{keyContent}
 use Rattle.extensions.specs.Layout.{placeOf}
 use Rattle.cert.specs.Layout.{bitsOf}
 use Rattle.cert.proofs.Laws.{read-inside}
 use Rattle.cert.proofs.PublicKeys.{key-sound, key-complete}
+use Rattle.extensions.proofs.Slots.{Within}
 use Rattle.extensions.proofs.Refusals.{Fair, by-test, by-content, expect-fair}
 use Rattle.cert.proofs.Refusals.{bits-fair, ReadingFair, reading-is, reading-not, read-fair}
 use Rattle.rows.specs.declared.Outline.{Outline}
@@ -65,7 +66,7 @@ module _ (issuers : List (List ℕ)) (end : List ℕ) (keys : List (List ℕ)) (
       )
 
 -- ---- the reply
-data KeyFair : Key → Type 0 where
+pub data KeyFair : Key → Type 0 where
   key-is : (p q : Span) → KeyFair (KeyParts p q)
   key-not : {e : ℕ} → Fair e → KeyFair (NoKey e)
 
@@ -82,7 +83,7 @@ on-outline-fair (Accepted c) k (reading-is d) i = i (outlineOf c)
 on-outline-fair (NoCertificate e) k (reading-not f) i = key-not f
 
 module _ (issuers : List (List ℕ)) (end : List ℕ) (keys : List (List ℕ)) (anchors n : ℕ) where
-  key-fair : KeyFair (keyOf issuers end keys anchors n)
+  pub key-fair : KeyFair (keyOf issuers end keys anchors n)
   unfolding keyIn
   key-fair =
       let s = certificateOf issuers end anchors n in
@@ -90,9 +91,22 @@ module _ (issuers : List (List ℕ)) (end : List ℕ) (keys : List (List ℕ)) (
       (by-test KeyFair (ltb n (length keys)) (parts-fair (getD keys n []) 0 (length (getD keys n []))) (key-not (lit< tt, lit< tt)))
       (on-outline-fair (readCertificate s true) _ (read-fair s true) (λ c. parts-fair s (c .key .start) (c .key .end)))
 
-  opened : Bytes (getD keys n []) → Bytes (certificateOf issuers end anchors n) → (p q : Span) → keyOf issuers end keys anchors n ≡ KeyParts p q → Opens issuers end keys anchors n
+  -- what holds the key: an anchor's key itself, or the certificate that it is of
+  abbrev pub holder : List ℕ
+  holder = cond (ltb n anchors) (getD keys n []) (certificateOf issuers end anchors n)
+
+  pub record KeyParted (p q : Span) : Type 0 where
+    pub key : List ℕ
+    pub is : KeyOf issuers end keys anchors n key
+    pub content : key ≡ keyContent (part holder (p .start) (p .end)) (part holder (q .start) (q .end))
+    pub algorithm-short : length (part holder (p .start) (p .end)) < LIMIT
+    pub bits-short : suc (length (part holder (q .start) (q .end))) < LIMIT
+    pub algorithm-within : Within holder (p .start) (p .end)
+    pub bits-within : Within holder (q .start) (q .end)
+
+  pub key-parted : Bytes (getD keys n []) → Bytes (certificateOf issuers end anchors n) → (p q : Span) → keyOf issuers end keys anchors n ≡ KeyParts p q → KeyParted p q
   unfolding keyIn
-  opened bk bc p q e =
+  key-parted bk bc p q e =
       let s = certificateOf issuers end anchors n in
       let k = getD keys n [] in
       ⊎-elim
@@ -103,11 +117,11 @@ module _ (issuers : List (List ℕ)) (end : List ℕ) (keys : List (List ℕ)) (
       record {
         key = k;
         is = of-anchor (ltb-true _ _ (w .0)) (ltb-true _ _ (y .0)) refl;
-        algorithm = _;
-        bits = _;
-        content = sym (part-whole k) ∙ h .bytes;
-        algorithm-short = h .algorithm-short;
-        bits-short = h .bits-short;
+        content = rw (w .0) (sym (part-whole k) ∙ h .bytes);
+        algorithm-short = rw (w .0) (h .algorithm-short);
+        bits-short = rw (w .0) (h .bits-short);
+        algorithm-within = rw (w .0) (h .algorithm-within);
+        bits-within = rw (w .0) (h .bits-within);
       })
       (λ y. absurd (let u = y .1 in let z : _≡_ {A = ℕ} 0 1 = cc in omega arith))
       (either (ltb n (length keys)) (w .1)))
@@ -118,13 +132,18 @@ module _ (issuers : List (List ℕ)) (end : List ℕ) (keys : List (List ℕ)) (
       record {
         key = part s (c .key .start) (c .key .end);
         is = of-certificate (ltb-false _ _ (w .0)) (contentsOf s c) (reads-certificate s bc (contentsOf s c) (c, r .1, refl)) refl;
-        algorithm = _;
-        bits = _;
-        content = h .bytes;
-        algorithm-short = h .algorithm-short;
-        bits-short = h .bits-short;
+        content = rw (w .0) (h .bytes);
+        algorithm-short = rw (w .0) (h .algorithm-short);
+        bits-short = rw (w .0) (h .bits-short);
+        algorithm-within = rw (w .0) (h .algorithm-within);
+        bits-within = rw (w .0) (h .bits-within);
       })
       (either (ltb n anchors) e)
+
+  opened : Bytes (getD keys n []) → Bytes (certificateOf issuers end anchors n) → (p q : Span) → keyOf issuers end keys anchors n ≡ KeyParts p q → Opens issuers end keys anchors n
+  opened bk bc p q e =
+      let d = key-parted bk bc p q e in
+      record { key = d .key; is = d .is; algorithm = _; bits = _; content = d .content; algorithm-short = d .algorithm-short; bits-short = d .bits-short }
 
   replied : (answer : ℕ) (k : Key) → KeyFair k → replyFor answer k ≡ 0 → (answer ≡ 0) × ((p : Span) × (q : Span) × (k ≡ KeyParts p q))
   unfolding replyFor

@@ -5,9 +5,9 @@ use mathlib.Core.List.{List, []}
 use mathlib.Core.Bool.{true}
 use lib.ListN.{length, getD}
 use Rattle.der.specs.declared.Span.{Span}
-use Rattle.der.specs.Places.{part}
-use Rattle.der.specs.Model.{LIMIT}
-use Rattle.cert.specs.Rfc5280.{Skeleton, certificate, tbsCertificate, Readable, keyContent}
+use Rattle.der.specs.Places.{part, LIMIT}
+use Rattle.cert.specs.Accepted.{Readable}
+use Rattle.cert.specs.Rfc5280.{Skeleton, certificate, tbsCertificate, keyContent}
 use Rattle.checks.specs.Conditions.{Contents}
 use Rattle.checks.specs.Skeletons.{IsCertificate}
 use Rattle.lent.specs.Lent.{certificateOf}

@@ -13,9 +13,9 @@ use borrow.Author.Tests.{ltb-false, leb-false, eqb-true, eqb-false}
 use Rattle.refusal.specs.Refusals.{badDer, trailingBitString}
 use Rattle.der.specs.declared.Span.{Span}
 use Rattle.der.specs.declared.Got.the-variants.{Content, Refused as NoContent}
-use Rattle.der.specs.Places.{Bytes, part}
+use Rattle.der.specs.Places.{Bytes, part, LIMIT}
 use Rattle.der.specs.X690.{encoding, bit, BitString, NamedBits, keepOctet, trimmed}
-use Rattle.der.specs.Model.{LIMIT, highTag, expectAt, onContent}
+use Rattle.der.specs.Model.{highTag, expectAt, onContent}
 use Rattle.bits.specs.Model.{wholeOctets, bitsAt, flagsIn, flagAt}
 use Rattle.der.proofs.Laws.{tests, value-expect, lt-or-le}
 use Rattle.der.proofs.Invert.{peel, either}

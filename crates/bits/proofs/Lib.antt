@@ -1,1 +1,2 @@
 pub mod BitStrings
+pub mod Differences

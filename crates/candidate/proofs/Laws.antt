@@ -2,7 +2,7 @@
 use Prim.Native.Nat.{ℕ, _≤_, _<_}
 use mathlib.Core.Path.{_≡_}
 use mathlib.Core.List.{List, [], map}
-use mathlib.Core.Bool.{Bool}
+use mathlib.Core.Bool.{Bool, true, false}
 use lib.ListN.{length, getD, length-map}
 use native.Mathlib.Omega.{arith}
 use borrow.Author.Tests.{lt-ltb, le-ltb, le-leb, lt-leb}
@@ -18,24 +18,28 @@ use Rattle.table.proofs.Laws.{behind}
 use Rattle.candidate.specs.declared.Verdict.the-variants.{Pass}
 use Rattle.lent.specs.Lent.{certificateOf, pre, newest}
 use Rattle.path.specs.Model.{depthOf}
-use Rattle.candidate.specs.Model.{hasBothAs, anchorVerdict, anchorAt, issuerVerdictIn, verdictIn}
+use Rattle.candidate.specs.Model.{hasBothAs, anchorVerdict, isWhole, anchorAt, issuerVerdictIn, verdictIn}
 use Rattle.lent.proofs.Laws.{lower-length}
 
 -- ---- an anchor
-module _ (subjects keys : List (RefT (List ℕ))) (distrusted : List (List ℕ)) (head : List ℕ) (issuer : Span) (i : ℕ) where
-  pub anchor-lent : (d e : RefT (List ℕ)) → i < length subjects → i < length keys
-      → anchorAt (map now subjects) (map now keys) distrusted head issuer i ≡ anchorVerdict (now (getD subjects i d)) (now (getD keys i e)) distrusted head issuer
+module _ (subjects keys : List (RefT (List ℕ))) (constraints : List (List ℕ)) (bound : List ℕ) (distrusted : List (List ℕ)) (head : List ℕ) (issuer : Span) (i : ℕ) where
+  pub anchor-lent : (d e : RefT (List ℕ)) → i < length subjects → i < length keys → isWhole constraints bound i ≡ true
+      → anchorAt (map now subjects) (map now keys) constraints bound distrusted head issuer i ≡ anchorVerdict (now (getD subjects i d)) (now (getD keys i e)) distrusted head issuer
   unfolding anchorAt
-  anchor-lent d e h k = rw (length-map keys now, lt-ltb i (length keys) k, behind subjects i d [] h, behind keys i e [] k)
+  anchor-lent d e h k w = rw (length-map keys now, lt-ltb i (length keys) k, w, behind subjects i d [] h, behind keys i e [] k)
 
-  pub anchor-keyless : length keys ≤ i → anchorAt (map now subjects) (map now keys) distrusted head issuer i ≡ Pass unknownIssuer
+  pub anchor-lacking : i < length keys → isWhole constraints bound i ≡ false → anchorAt (map now subjects) (map now keys) constraints bound distrusted head issuer i ≡ Pass unknownIssuer
+  unfolding anchorAt
+  anchor-lacking k w = rw (length-map keys now, lt-ltb i (length keys) k, w)
+
+  pub anchor-keyless : length keys ≤ i → anchorAt (map now subjects) (map now keys) constraints bound distrusted head issuer i ≡ Pass unknownIssuer
   unfolding anchorAt
   anchor-keyless k = rw (length-map keys now, le-ltb i (length keys) k)
 
 -- ---- a path in an array
 module _ (known : ℕ → Reading) (issuers : List (List ℕ)) (end : List ℕ) (path : List ℕ) (d : ℕ) where
-  module _ (subjects keys distrusted : List (List ℕ)) (i : ℕ) where
-    pub verdict-deep : 6 < d → Pass maximumPathDepthExceeded ≡ verdictIn known issuers end subjects keys distrusted (pre path d) i
+  module _ (subjects keys constraints : List (List ℕ)) (bound : List ℕ) (distrusted : List (List ℕ)) (i : ℕ) where
+    pub verdict-deep : 6 < d → Pass maximumPathDepthExceeded ≡ verdictIn known issuers end subjects keys constraints bound distrusted (pre path d) i
     unfolding verdictIn depthOf
     verdict-deep h = simp (lower-length path d, le-leb 7 d h)
 
@@ -43,19 +47,19 @@ module _ (known : ℕ → Reading) (issuers : List (List ℕ)) (end : List ℕ) 
       reads : {x : Outlined} → outlined (known n) ≡ x → outlined (known (getD path d 0)) ≡ x
       reads e = rw (← at) e
 
-      pub verdict-refused : {e : ℕ} → outlined (known n) ≡ NoOutline e → Pass e ≡ verdictIn known issuers end subjects keys distrusted (pre path d) i
+      pub verdict-refused : {e : ℕ} → outlined (known n) ≡ NoOutline e → Pass e ≡ verdictIn known issuers end subjects keys constraints bound distrusted (pre path d) i
       unfolding verdictIn newest depthOf onOutline
       verdict-refused r = simp (lower-length path d, lt-leb 7 d (omega arith), reads r)
 
       pub verdict-anchor : {o : Outline} → outlined (known n) ≡ Is o → i < anchors
-          → anchorAt subjects keys distrusted s (o .issuer) i ≡ verdictIn known issuers end subjects keys distrusted (pre path d) i
+          → anchorAt subjects keys constraints bound distrusted s (o .issuer) i ≡ verdictIn known issuers end subjects keys constraints bound distrusted (pre path d) i
       unfolding verdictIn newest depthOf onOutline
       verdict-anchor r h =
           let l : i < length subjects = omega arith in
           simp (is, at, count, lower-length path d, lt-leb 7 d (omega arith), reads r, lt-ltb i (length subjects) l)
 
       pub verdict-issuer : {o : Outline} {t : List ℕ} {g : Outlined} → outlined (known n) ≡ Is o → anchors ≤ i → t ≡ certificateOf issuers end anchors i → g ≡ outlined (known i)
-          → issuerVerdictIn known issuers end anchors (pre path d) s (o .issuer) t g ≡ verdictIn known issuers end subjects keys distrusted (pre path d) i
+          → issuerVerdictIn known issuers end anchors (pre path d) s (o .issuer) t g ≡ verdictIn known issuers end subjects keys constraints bound distrusted (pre path d) i
       unfolding verdictIn newest depthOf onOutline
       verdict-issuer r h e g =
           let l : length subjects ≤ i = omega arith in

@@ -13,7 +13,8 @@ use Rattle.candidate.specs.Model.{verdictOn}
 use Rattle.path.proofs.Checked.{path-check-sound, path-check-complete}
 use Rattle.candidate.proofs.Verdicts.{extend-sound, extend-complete}
 
-module _ (issuers : List (List ℕ)) (end : List ℕ) (subjects keys distrusted : List (List ℕ)) (time : ℕ) (wanted : List ℕ) (demanded : Bool) (bs : (n : ℕ) → Bytes (certificateOf issuers end (length subjects) n)) where
+module _ (issuers : List (List ℕ)) (end : List ℕ) (subjects keys constraints : List (List ℕ)) (bound : List ℕ) (distrusted : List (List ℕ))
+    (time : ℕ) (wanted : List ℕ) (demanded : Bool) (bs : (n : ℕ) → Bytes (certificateOf issuers end (length subjects) n)) where
   abbrev Checked : List ℕ → Type 0
   Checked path = checkOn issuers end (length subjects) distrusted time wanted demanded path ≡ 0
 
@@ -21,7 +22,7 @@ module _ (issuers : List (List ℕ)) (end : List ℕ) (subjects keys distrusted 
   abbrev pub Grown : List ℕ → Type 0
   Grown [] = ⊥
   Grown (n ∷ []) = Checked (n ∷ [])
-  Grown (i ∷ (n ∷ ns)) = Grown (n ∷ ns) × (verdictOn issuers end subjects keys distrusted (n ∷ ns) i ≡ Extend) × Checked (i ∷ (n ∷ ns))
+  Grown (i ∷ (n ∷ ns)) = Grown (n ∷ ns) × (verdictOn issuers end subjects keys constraints bound distrusted (n ∷ ns) i ≡ Extend) × Checked (i ∷ (n ∷ ns))
 
   pub grown-in-order : (path : List ℕ) → Grown path → InOrder issuers end subjects keys distrusted time wanted demanded path
   grown-in-order [] g = g
@@ -29,7 +30,7 @@ module _ (issuers : List (List ℕ)) (end : List ℕ) (subjects keys distrusted 
   grown-in-order (i ∷ (n ∷ ns)) g =
       let p = i ∷ (n ∷ ns) in (
         grown-in-order (n ∷ ns) (g .0),
-        extend-sound issuers end subjects keys distrusted (n ∷ ns) i bs (g .1),
+        extend-sound issuers end subjects keys constraints bound distrusted (n ∷ ns) i bs (g .1),
         path-check-sound issuers end (length subjects) distrusted time wanted demanded p (bs (newest p)) (g .2),
       )
 
@@ -39,6 +40,6 @@ module _ (issuers : List (List ℕ)) (end : List ℕ) (subjects keys distrusted 
   in-order-grown (i ∷ (n ∷ ns)) g =
       let p = i ∷ (n ∷ ns) in (
         in-order-grown (n ∷ ns) (g .0),
-        extend-complete issuers end subjects keys distrusted (n ∷ ns) i bs (g .1),
+        extend-complete issuers end subjects keys constraints bound distrusted (n ∷ ns) i bs (g .1),
         path-check-complete issuers end (length subjects) distrusted time wanted demanded p (bs (newest p)) (g .2 .0) (g .2 .1) (g .2 .2),
       )

@@ -2,12 +2,12 @@
 use Prim.Native.Nat.{ℕ, _≤_, _<_}
 use mathlib.Core.Path.{_≡_, refl, sym, ap, _∙_}
 use mathlib.Core.List.{List, [], _∷_, List·Memᴰ, List·Memᴰ·head, List·Memᴰ·tail, List·Memᴰ·cases-cons, List·Memᴰ·not-nil}
-use mathlib.Core.Bool.{Bool, true, false, cond}
+use mathlib.Core.Bool.{Bool, true, false, cond, not}
 use mathlib.Core.Logic.{⊎-elim}
 use lib.ListN.{length, getD}
-use lib.Dec.{ltb, leb}
+use lib.Dec.{ltb, leb, eqb}
 use native.Mathlib.Omega.{arith}
-use borrow.Author.Tests.{ltb-true, ltb-false, leb-false, lt-ltb, le-ltb, lt-leb}
+use borrow.Author.Tests.{ltb-true, ltb-false, leb-false, eqb-false, lt-ltb, le-ltb, lt-leb, ne-eqb}
 use Rattle.der.specs.declared.Span.{Span}
 use Rattle.der.specs.Places.{Bytes, part}
 use Rattle.parts.specs.Model.{sameParts}
@@ -16,7 +16,7 @@ use Rattle.parts.proofs.Equal.{same-yes, same-equal}
 use Rattle.cert.specs.declared.Certificate.{Certificate}
 use Rattle.cert.specs.declared.Reading.the-variants.{Accepted}
 use Rattle.cert.specs.Model.{readCertificate}
-use Rattle.extensions.proofs.Value.{part-whole}
+use Rattle.der.proofs.Parts.{part-whole}
 use Rattle.extensions.proofs.Inversion.{chosen}
 use Rattle.cert.proofs.Laws.{read-inside}
 use Rattle.rows.proofs.Laws.{on-outline}
@@ -25,11 +25,11 @@ use Rattle.candidate.specs.declared.Verdict.the-variants.{Pass, Anchor, 
 use Rattle.checks.specs.Conditions.{Contents}
 use Rattle.path.specs.Conditions.{Same}
 use Rattle.checks.proofs.Contents.{at, contentsOf, Reads}
-use Rattle.candidate.specs.Candidates.{Extends, Anchors}
+use Rattle.candidate.specs.Candidates.{Whole, Extends, Anchors}
 use Rattle.lent.specs.Lent.{certificateOf, someOf, newest}
 use Rattle.lent.specs.Lent.{listed}
 use Rattle.path.specs.Model.{depthOf}
-use Rattle.candidate.specs.Model.{hasBoth, onPath, anchorVerdict, anchorAt, issuerVerdict, verdictOn, hasBothAs, issuerVerdictIn, onPathIn, verdictIn}
+use Rattle.candidate.specs.Model.{hasBoth, onPath, anchorVerdict, isFlagged, isWhole, anchorAt, issuerVerdict, verdictOn, hasBothAs, issuerVerdictIn, onPathIn, verdictIn}
 use Rattle.checks.proofs.Skeletons.{reads-certificate, certificate-reads}
 use Rattle.path.proofs.Checked.{listed-trusted, trusted-listed}
 
@@ -96,7 +96,8 @@ module _ (s : List ℕ) (b : Bytes s) (c : Certificate) (r : readCertificate s t
         go false e z = z
 
 -- ---- the verdict
-module _ (issuers : List (List ℕ)) (end : List ℕ) (subjects keys distrusted : List (List ℕ)) (path : List ℕ) (i : ℕ) (bs : (n : ℕ) → Bytes (certificateOf issuers end (length subjects) n)) where
+module _ (issuers : List (List ℕ)) (end : List ℕ) (subjects keys constraints : List (List ℕ)) (bound : List ℕ) (distrusted : List (List ℕ))
+    (path : List ℕ) (i : ℕ) (bs : (n : ℕ) → Bytes (certificateOf issuers end (length subjects) n)) where
   few-places : (l : List ℕ) → depthOf l < 7 → length l ≤ 7
   unfolding depthOf
   few-places [] h = omega arith
@@ -107,11 +108,24 @@ module _ (issuers : List (List ℕ)) (end : List ℕ) (subjects keys distrusted 
   places-few [] h = omega arith
   places-few (n ∷ ns) h = omega arith
 
-  not-extend : (s : List ℕ) (issuer : Span) → anchorAt subjects keys distrusted s issuer i ≡ Extend → ⊥
+  whole-sound : isWhole constraints bound i ≡ true → Whole constraints bound i
+  unfolding isWhole isFlagged
+  whole-sound e set = ltb-true i (length constraints) (rw (ne-eqb _ _ set) at e)
+
+  whole-complete : Whole constraints bound i → isWhole constraints bound i ≡ true
+  unfolding isWhole isFlagged
+  whole-complete w = by (eqb (getD bound i 0) 0) refl
+    where
+      by : (b : Bool) → eqb (getD bound i 0) 0 ≡ b → cond (not b) (ltb i (length constraints)) true ≡ true
+      by true e = refl
+      by false e = lt-ltb i (length constraints) (w (eqb-false _ _ e))
+
+  not-extend : (s : List ℕ) (issuer : Span) → anchorAt subjects keys constraints bound distrusted s issuer i ≡ Extend → ⊥
   unfolding anchorAt anchorVerdict
   not-extend s issuer e =
       let p = chosen (ltb i (length keys)) e pass-extend in
-      let q = chosen (sameParts (getD subjects i []) 0 (length (getD subjects i [])) s (issuer .start) (issuer .end)) (p .1) pass-extend in
+      let w = chosen (isWhole constraints bound i) (p .1) pass-extend in
+      let q = chosen (sameParts (getD subjects i []) 0 (length (getD subjects i [])) s (issuer .start) (issuer .end)) (w .1) pass-extend in
       let r = peel (listed distrusted (getD keys i []) 0 (length (getD keys i []))) (q .1) pass-extend in
       anchor-extend (r .1)
 
@@ -124,7 +138,7 @@ module _ (issuers : List (List ℕ)) (end : List ℕ) (subjects keys distrusted 
       let r = peel (onPath issuers end (length subjects) s (c .subject) (c .key) path) (q .1) pass-anchor in
       anchor-extend (sym (r .1))
 
-  pub extend-sound : verdictOn issuers end subjects keys distrusted path i ≡ Extend → Extends issuers end subjects keys distrusted path i
+  pub extend-sound : verdictOn issuers end subjects keys constraints bound distrusted path i ≡ Extend → Extends issuers end subjects keys distrusted path i
   unfolding verdictIn issuerVerdictIn
   extend-sound e =
       let head = certificateOf issuers end (length subjects) (newest path) in
@@ -148,7 +162,7 @@ module _ (issuers : List (List ℕ)) (end : List ℕ) (subjects keys distrusted 
         once = λ n m o z y. once-sound s (bs i) c (t .1) issuers end (length subjects) bs path (v .0) n m o (certificate-reads _ o z) y;
       }
 
-  pub extend-complete : Extends issuers end subjects keys distrusted path i → verdictOn issuers end subjects keys distrusted path i ≡ Extend
+  pub extend-complete : Extends issuers end subjects keys distrusted path i → verdictOn issuers end subjects keys constraints bound distrusted path i ≡ Extend
   unfolding verdictIn issuerVerdictIn onOutline outlined
   extend-complete x =
       let head = certificateOf issuers end (length subjects) (newest path) in
@@ -165,7 +179,7 @@ module _ (issuers : List (List ℕ)) (end : List ℕ) (subjects keys distrusted 
       (λ n m o r y. x .once n m o (reads-certificate _ (bs n) o r) (sym (ap (λ (z : Contents). z .subject) (new .2)) ∙ y .0, sym (ap (λ (z : Contents). z .key) (new .2)) ∙ y .1)) in
       rw (lt-leb 7 (depthOf path) (places-few path (x .few)), top .1, le-ltb i (length subjects) (x .candidate), new .1, g, o)
 
-  pub anchor-sound : verdictOn issuers end subjects keys distrusted path i ≡ Anchor → Anchors issuers end subjects keys distrusted path i
+  pub anchor-sound : verdictOn issuers end subjects keys constraints bound distrusted path i ≡ Anchor → Anchors issuers end subjects keys distrusted path i constraints bound
   unfolding verdictIn anchorAt anchorVerdict
   anchor-sound e =
       let head = certificateOf issuers end (length subjects) (newest path) in
@@ -176,20 +190,22 @@ module _ (issuers : List (List ℕ)) (end : List ℕ) (subjects keys distrusted 
       let h = q .0 in
       let r = chosen (ltb i (length subjects)) (q .2) (not-anchor head (h .issuer) (certificateOf issuers end (length subjects) i)) in
       let t = chosen (ltb i (length keys)) (r .1) pass-anchor in
-      let u = chosen (sameParts subject 0 (length subject) head (h .issuer .start) (h .issuer .end)) (t .1) pass-anchor in
+      let l = chosen (isWhole constraints bound i) (t .1) pass-anchor in
+      let u = chosen (sameParts subject 0 (length subject) head (h .issuer .start) (h .issuer .end)) (l .1) pass-anchor in
       let v = peel (listed distrusted key 0 (length key)) (u .1) pass-anchor in
       let w = listed-trusted key 0 (length key) (omega arith) (omega arith) distrusted (v .0) in
       record {
         few = few-places path (leb-false _ _ (p .0));
         candidate = ltb-true _ _ (r .0);
         keyed = ltb-true _ _ (t .0);
+        whole = whole-sound (l .0);
         head = contentsOf head h;
         newest-is = reads-certificate head (bs (newest path)) (contentsOf head h) (h, q .1, refl);
         chained = sym (part-whole subject) ∙ same-yes subject 0 (length subject) head (h .issuer .start) (h .issuer .end) (u .0) .4;
         trusted = rw (part-whole key) at w;
       }
 
-  pub anchor-complete : Anchors issuers end subjects keys distrusted path i → verdictOn issuers end subjects keys distrusted path i ≡ Anchor
+  pub anchor-complete : Anchors issuers end subjects keys distrusted path i constraints bound → verdictOn issuers end subjects keys constraints bound distrusted path i ≡ Anchor
   unfolding verdictIn anchorAt anchorVerdict onOutline outlined
   anchor-complete x =
       let head = certificateOf issuers end (length subjects) (newest path) in
@@ -201,4 +217,4 @@ module _ (issuers : List (List ℕ)) (end : List ℕ) (subjects keys distrusted 
       let f : part subject 0 (length subject) ≡ at head (h .issuer) = part-whole subject ∙ x .chained ∙ sym (ap (λ (y : Contents). y .issuer) (top .2)) in
       let g = same-equal subject 0 (length subject) head _ _ (omega arith) (omega arith) (j .issuer .ordered) (j .issuer .inside) f in
       let o = trusted-listed key 0 (length key) distrusted (rw (part-whole key) (x .trusted)) in
-      rw (lt-leb 7 (depthOf path) (places-few path (x .few)), top .1, lt-ltb i (length subjects) (x .candidate), lt-ltb i (length keys) (x .keyed), g, o)
+      rw (lt-leb 7 (depthOf path) (places-few path (x .few)), top .1, lt-ltb i (length subjects) (x .candidate), lt-ltb i (length keys) (x .keyed), whole-complete (x .whole), g, o)

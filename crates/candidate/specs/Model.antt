@@ -3,9 +3,9 @@
 -- entity last. Where a number is a refusal or none, 0 is none.
 use Prim.Native.Nat.{ℕ, suc}
 use mathlib.Core.List.{List, []}
-use mathlib.Core.Bool.{Bool, true, false, cond}
+use mathlib.Core.Bool.{Bool, true, false, cond, not}
 use lib.ListN.{length, getD}
-use lib.Dec.{ltb, leb}
+use lib.Dec.{ltb, leb, eqb}
 use Rattle.refusal.specs.Refusals.{unknownIssuer, certDistrusted, maximumPathDepthExceeded}
 use Rattle.der.specs.declared.Span.{Span}
 use Rattle.parts.specs.Model.{sameParts}
@@ -52,23 +52,33 @@ abbrev pub issuerVerdict : List (List ℕ) → List ℕ → ℕ → List ℕ →
 issuerVerdict issuers end anchors path head issuer s =
     issuerVerdictIn (readingsOf issuers end anchors) issuers end anchors path head issuer s (outlined (readCertificate s true))
 
-unfoldable pub anchorAt : List (List ℕ) → List (List ℕ) → List (List ℕ) → List ℕ → Span → ℕ → Verdict
-anchorAt subjects keys distrusted head issuer i =
+-- whether the flag of anchor i says that it has name constraints
+unfoldable pub isFlagged : List ℕ → ℕ → Bool
+isFlagged bound i = not (eqb (getD bound i 0) 0)
+
+-- whether the list has them, if so
+unfoldable pub isWhole : List (List ℕ) → List ℕ → ℕ → Bool
+isWhole constraints bound i = cond (isFlagged bound i) (ltb i (length constraints)) true
+
+unfoldable pub anchorAt : List (List ℕ) → List (List ℕ) → List (List ℕ) → List ℕ → List (List ℕ) → List ℕ → Span → ℕ → Verdict
+anchorAt subjects keys constraints bound distrusted head issuer i =
     cond (ltb i (length keys))
+    (cond (isWhole constraints bound i)
     (anchorVerdict (getD subjects i []) (getD keys i []) distrusted head issuer)
+    (Pass unknownIssuer))
     (Pass unknownIssuer)
 
 -- what candidate i is to a path, which may have as many intermediates as there is room for
-unfoldable pub verdictIn : (ℕ → Reading) → List (List ℕ) → List ℕ → List (List ℕ) → List (List ℕ) → List (List ℕ) → List ℕ → ℕ → Verdict
-verdictIn known issuers end subjects keys distrusted path i =
+unfoldable pub verdictIn : (ℕ → Reading) → List (List ℕ) → List ℕ → List (List ℕ) → List (List ℕ) → List (List ℕ) → List ℕ → List (List ℕ) → List ℕ → ℕ → Verdict
+verdictIn known issuers end subjects keys constraints bound distrusted path i =
     let anchors = length subjects in
     let head = certificateOf issuers end anchors (newest path) in
     cond (leb (suc mostIntermediates) (depthOf path))
     (Pass maximumPathDepthExceeded)
     (onOutline (outlined (known (newest path))) Pass (λ c.
     cond (ltb i anchors)
-    (anchorAt subjects keys distrusted head (c .issuer) i)
+    (anchorAt subjects keys constraints bound distrusted head (c .issuer) i)
     (issuerVerdictIn known issuers end anchors path head (c .issuer) (certificateOf issuers end anchors i) (outlined (known i)))))
 
-abbrev pub verdictOn : List (List ℕ) → List ℕ → List (List ℕ) → List (List ℕ) → List (List ℕ) → List ℕ → ℕ → Verdict
+abbrev pub verdictOn : List (List ℕ) → List ℕ → List (List ℕ) → List (List ℕ) → List (List ℕ) → List ℕ → List (List ℕ) → List ℕ → ℕ → Verdict
 verdictOn issuers end subjects = verdictIn (readingsOf issuers end (length subjects)) issuers end subjects

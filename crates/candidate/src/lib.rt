@@ -7,7 +7,7 @@ ghost use mathlib.Core.List.{map};
 ghost use lib.ListN.{length};
 ghost use Prim.Native.Nat.{_<_};
 ghost use Rattle.lent.specs.Lent.{readingsIn, pre};
-ghost use Rattle.candidate.specs.Model.{hasBothAs, onPathIn, anchorVerdict, anchorAt, issuerVerdictIn, verdictIn};
+ghost use Rattle.candidate.specs.Model.{hasBothAs, onPathIn, anchorVerdict, isFlagged, isWhole, anchorAt, issuerVerdictIn, verdictIn};
 
 pub enum Verdict {
     Pass(u16),
@@ -79,22 +79,47 @@ fn anchor_verdict(
     Verdict::Pass(refusal::UNKNOWN_ISSUER)
 }
 
-// The same of anchor i; one without a key is nobody's issuer.
+// Whether the flag of anchor i says that it has name constraints. One that is not there says that it has none.
+pub fn is_flagged(bound: &[u8], i: usize) -> bool
+    ensures { λ r. ⌜ r ≡ isFlagged (now (bound .entry)) i ⌝ }
+{
+    if i < bound.len() {
+        return bound[i] != 0;
+    }
+    false
+}
+
+// Whether the list has the name constraints of anchor i, if its flag says that it has any.
+fn is_whole(constraints: &[&[u8]], bound: &[u8], i: usize) -> bool
+    ensures { λ r. ⌜ r ≡ isWhole (map now (now (constraints .entry))) (now (bound .entry)) i ⌝ }
+{
+    if is_flagged(bound, i) {
+        return i < constraints.len();
+    }
+    true
+}
+
+// The same of anchor i; one without a key, or without the name constraints that it has by its flag, is nobody's issuer.
 fn anchor_at(
     subjects: &[&[u8]],
     keys: &[&[u8]],
+    constraints: &[&[u8]],
+    bound: &[u8],
     distrusted: &[&[u8]],
     head: &[u8],
     issuer: Span,
     i: usize,
 ) -> Verdict
     requires { ⌜ i < length (now subjects) ⌝ }
-    ensures { λ r. ⌜ r ≡ anchorAt (map now (now (subjects .entry))) (map now (now (keys .entry))) (map now (now (distrusted .entry))) (now (head .entry)) issuer i ⌝ }
+    ensures { λ r. ⌜ r ≡ anchorAt (map now (now (subjects .entry))) (map now (now (keys .entry))) (map now (now (constraints .entry))) (now (bound .entry)) (map now (now (distrusted .entry))) (now (head .entry)) issuer i ⌝ }
 {
     if i < keys.len() {
-        let subject = subjects[i];
-        let key = keys[i];
-        return anchor_verdict(subject, key, distrusted, head, issuer);
+        if is_whole(constraints, bound, i) {
+            let subject = subjects[i];
+            let key = keys[i];
+            return anchor_verdict(subject, key, distrusted, head, issuer);
+        }
+        return Verdict::Pass(refusal::UNKNOWN_ISSUER);
     }
     Verdict::Pass(refusal::UNKNOWN_ISSUER)
 }
@@ -145,12 +170,14 @@ pub fn verdict_on<'a>(
     end: &'a [u8],
     subjects: &[&[u8]],
     keys: &[&[u8]],
+    constraints: &[&[u8]],
+    bound: &[u8],
     distrusted: &[&[u8]],
     path: [usize; 7],
     depth: usize,
     i: usize,
 ) -> Verdict
-    ensures { λ r. ⌜ r ≡ verdictIn (readingsIn (now (table .entry)) (map now (now (issuers .entry))) (now (end .entry)) (length (now (subjects .entry)))) (map now (now (issuers .entry))) (now (end .entry)) (map now (now (subjects .entry))) (map now (now (keys .entry))) (map now (now (distrusted .entry))) (pre path depth) i ⌝ }
+    ensures { λ r. ⌜ r ≡ verdictIn (readingsIn (now (table .entry)) (map now (now (issuers .entry))) (now (end .entry)) (length (now (subjects .entry)))) (map now (now (issuers .entry))) (now (end .entry)) (map now (now (subjects .entry))) (map now (now (keys .entry))) (map now (now (constraints .entry))) (now (bound .entry)) (map now (now (distrusted .entry))) (pre path depth) i ⌝ }
 {
     if MOST_INTERMEDIATES < depth {
         return Verdict::Pass(refusal::MAXIMUM_PATH_DEPTH_EXCEEDED);
@@ -162,7 +189,16 @@ pub fn verdict_on<'a>(
         Outlined::Is(c) => {
             let issuer = c.issuer;
             if i < anchors {
-                return anchor_at(subjects, keys, distrusted, head, issuer, i);
+                return anchor_at(
+                    subjects,
+                    keys,
+                    constraints,
+                    bound,
+                    distrusted,
+                    head,
+                    issuer,
+                    i,
+                );
             }
             let s = lent::certificate(issuers, end, anchors, i);
             let outline = lent::outline(table, issuers, end, anchors, i);

@@ -17,7 +17,8 @@ use Rattle.cert.specs.declared.Anchored.{Anchored}
 use Rattle.cert.specs.declared.Anchored.the-variants.{Anchor, Refused as NoAnchor}
 use Rattle.extensions.specs.declared.Slot.{Slot}
 use Rattle.cert.specs.Model.{readCertificate, anchorOf, readAnchor}
-use Rattle.cert.specs.Rfc5280.{Skeleton, Readable, certificate}
+use Rattle.cert.specs.Accepted.{Readable}
+use Rattle.cert.specs.Rfc5280.{Skeleton, certificate}
 use Rattle.cert.specs.Layout.{places}
 use Rattle.cert.proofs.Complete.{complete}
 

@@ -7,10 +7,9 @@ use lib.ListN.{length}
 use native.Mathlib.Omega.{arith}
 use Rattle.refusal.specs.Refusals.{badDer, trailingSignedData}
 use Rattle.der.specs.declared.Span.{Span}
-use Rattle.der.specs.Places.{part}
+use Rattle.der.specs.Places.{part, LIMIT}
 use Rattle.der.specs.X690.{encoding}
-use Rattle.der.specs.Model.{LIMIT}
-use Rattle.der.proofs.Parts.{part-length}
+use Rattle.der.proofs.Parts.{part-length, part-whole}
 use Rattle.parts.proofs.Equal.{same-equal}
 use Rattle.extensions.proofs.Complete.{extensions-found}
 use Rattle.cert.specs.declared.Reading.the-variants.{Accepted}
@@ -24,12 +23,13 @@ use Rattle.extensions.specs.Model.{span}
 use Rattle.envelope.specs.Model.{opened, begun}
 use Rattle.cert.specs.Model.{fieldsAt, readCertificate}
 use Rattle.extensions.specs.Rfc5280.{sequence, extensions}
-use Rattle.cert.specs.Rfc5280.{Skeleton, Readable, integer, bitString, version, tbsContent, tbsCertificate, certificateContent, certificate}
+use Rattle.cert.specs.Accepted.{Readable}
+use Rattle.cert.specs.Rfc5280.{Skeleton, integer, bitString, version, tbsContent, tbsCertificate, certificateContent, certificate}
 use Rattle.extensions.specs.Layout.{placeOf, knownAt}
 use Rattle.cert.specs.Layout.{bitsOf, places}
 use Rattle.envelope.proofs.Cases.{parts-case, opened-case, begun-case}
 use Rattle.cert.proofs.Cases.{fields-case, read-case}
-use Rattle.extensions.proofs.Value.{part-whole, find-last, find-in}
+use Rattle.extensions.proofs.Value.{find-last, find-in}
 use Rattle.cert.proofs.Small.{bits-short, bits-found, version-found}
 use Rattle.cert.proofs.Sound.{placed}
 

@@ -5,7 +5,10 @@ pub mod Sound
 pub mod Laws
 pub mod Complete
 pub mod Unique
+pub mod Meaning
+pub mod Conforming
 pub mod Anchors
 pub mod PublicKeys
 pub mod Exact
 pub mod Refusals
+pub mod Differences

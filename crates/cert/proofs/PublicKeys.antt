@@ -10,8 +10,8 @@ use borrow.Author.Tests.{leb-false}
 use Rattle.refusal.specs.Refusals.{badDer, trailingBitString}
 use Rattle.der.specs.declared.Span.{Span}
 use Rattle.der.specs.declared.Got.the-variants.{Content, Refused as NoContent}
-use Rattle.der.specs.Places.{Bytes, part}
-use Rattle.der.specs.Model.{LIMIT, expectAt}
+use Rattle.der.specs.Places.{Bytes, part, LIMIT}
+use Rattle.der.specs.Model.{expectAt}
 use Rattle.bits.specs.Model.{wholeOctets, bitsAt}
 use Rattle.der.proofs.Invert.{peel}
 use Rattle.der.proofs.Parts.{part-length}

@@ -10,9 +10,9 @@ use Rattle.refusal.specs.Refusals.{unsupportedCertVersion, badDer}
 use Rattle.der.specs.declared.Span.{Span}
 use Rattle.der.specs.declared.Got.the-variants.{Content}
 use Rattle.values.specs.declared.Small.the-variants.{Number}
-use Rattle.der.specs.Places.{Bytes, part}
+use Rattle.der.specs.Places.{Bytes, part, LIMIT}
 use Rattle.der.specs.X690.{encoding, lengthBytes, Natural, valueOf}
-use Rattle.der.specs.Model.{LIMIT, expectAt, onContent}
+use Rattle.der.specs.Model.{expectAt, onContent}
 use Rattle.bits.specs.Model.{bitsAt}
 use Rattle.values.specs.Model.{positiveIn, nonnegative, smallIn, readSmall}
 use Rattle.der.proofs.Laws.{tests}

@@ -7,10 +7,9 @@ use lib.ListN.{length}
 use native.Mathlib.Omega.{arith}
 use Rattle.refusal.specs.Refusals.{badDer, trailingSignedData}
 use Rattle.der.specs.declared.Span.{Span}
-use Rattle.der.specs.Places.{Bytes, part}
+use Rattle.der.specs.Places.{Bytes, part, LIMIT}
 use Rattle.der.specs.X690.{encoding}
-use Rattle.der.specs.Model.{LIMIT}
-use Rattle.der.proofs.Parts.{part-length, part-split}
+use Rattle.der.proofs.Parts.{part-length, part-split, part-whole}
 use Rattle.parts.proofs.Equal.{same-yes}
 use Rattle.extensions.proofs.Sound.{ExtensionsHere, extensions-here}
 use Rattle.cert.specs.declared.Certificate.{Certificate}
@@ -22,12 +21,13 @@ use Rattle.extensions.specs.declared.Known.{Known}
 use Rattle.extensions.specs.Model.{span}
 use Rattle.cert.specs.Model.{readCertificate}
 use Rattle.extensions.specs.Rfc5280.{sequence}
-use Rattle.cert.specs.Rfc5280.{Skeleton, Readable, integer, bitString, version, tbsContent, tbsCertificate, certificateContent, certificate}
+use Rattle.cert.specs.Accepted.{Readable}
+use Rattle.cert.specs.Rfc5280.{Skeleton, integer, bitString, version, tbsContent, tbsCertificate, certificateContent, certificate}
 use Rattle.extensions.specs.Layout.{placeOf, slots, knownAt}
 use Rattle.cert.specs.Layout.{bitsOf, places}
 use Rattle.envelope.proofs.Inversion.{OpenedAs, BegunAt}
 use Rattle.cert.proofs.Inversion.{FieldsAt, read-inv}
-use Rattle.extensions.proofs.Value.{part-whole, here, here-split}
+use Rattle.extensions.proofs.Value.{here, here-split}
 use Rattle.cert.proofs.Small.{bits-here, version-here}
 use Rattle.extensions.proofs.Slots.{Within, KnownWithin}
 

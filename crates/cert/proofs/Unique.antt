@@ -4,7 +4,7 @@ use mathlib.Core.Path.{_≡_, refl, sym, _∙_}
 use mathlib.Core.List.{List, [], _∷_, append-nil}
 use lib.ListN.{length}
 use Rattle.der.specs.X690.{encoding}
-use Rattle.der.specs.Model.{LIMIT}
+use Rattle.der.specs.Places.{LIMIT}
 use Rattle.extensions.proofs.Unique.{encoding-once, once-in, last-in, extensions-once}
 use Rattle.extensions.specs.Rfc5280.{Extensions, sequence, explicit}
 use Rattle.cert.specs.Rfc5280.{Skeleton, integer, bitString, version, tbsContent, tbsCertificate, certificateContent, certificate}
@@ -30,6 +30,12 @@ bits-once x x′ h e =
     let r = last-in 3 (0 ∷ x) (0 ∷ x′) refl h e .0 in
     cc
 
+pub same-skeleton : {a a′ b b′ c c′ d d′ e e′ f f′ g g′ : List ℕ} {x x′ : Extensions} → a ≡ a′ → b ≡ b′ → c ≡ c′ → d ≡ d′ → e ≡ e′ → f ≡ f′ → x ≡ x′ → g ≡ g′
+    → _≡_ {A = Skeleton}
+    (record { serial = a; algorithm = b; issuer = c; validity = d; subject = e; key = f; extensions = x; signature = g })
+    (record { serial = a′; algorithm = b′; issuer = c′; validity = d′; subject = e′; key = f′; extensions = x′; signature = g′ })
+same-skeleton p q r s t u v w = rw (p, q, r, s, t, u, v, w)
+
 content-once : (k k′ : Skeleton) → length (certificateContent k) < LIMIT → certificateContent k ≡ certificateContent k′ → k ≡ k′
 unfolding certificateContent tbsCertificate sequence
 content-once k k′ h e =
@@ -38,12 +44,6 @@ content-once k k′ h e =
     let f = tbs-once k k′ (t .2) (t .0) in
     let g : k .signature ≡ k′ .signature = bits-once (k .signature) (k′ .signature) (a .3) (a .1) in
     same-skeleton (f .0) (f .1) (f .2) (f .3) (f .4) (f .5) (f .6) g
-  where
-    same-skeleton : {a a′ b b′ c c′ d d′ e e′ f f′ g g′ : List ℕ} {x x′ : Extensions} → a ≡ a′ → b ≡ b′ → c ≡ c′ → d ≡ d′ → e ≡ e′ → f ≡ f′ → x ≡ x′ → g ≡ g′
-        → _≡_ {A = Skeleton}
-        (record { serial = a; algorithm = b; issuer = c; validity = d; subject = e; key = f; extensions = x; signature = g })
-        (record { serial = a′; algorithm = b′; issuer = c′; validity = d′; subject = e′; key = f′; extensions = x′; signature = g′ })
-    same-skeleton p q r s t u v w = rw (p, q, r, s, t, u, v, w)
 
 -- UNIQUE: one encoding, one skeleton
 pub unique : (k k′ : Skeleton) → length (certificateContent k) < LIMIT → length (certificateContent k′) < LIMIT → certificate k ≡ certificate k′ → k ≡ k′

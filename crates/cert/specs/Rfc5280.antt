@@ -1,12 +1,9 @@
 -- RFC 5280: a certificate's skeleton and its encoding. Serial number, algorithm, names, validity and key are contents of which
 -- nothing more is said; of the extensions the crate below speaks. No reader is named here.
-use Prim.Native.Nat.{ℕ, _≤_, _<_}
+use Prim.Native.Nat.{ℕ}
 use mathlib.Core.List.{List, [], _∷_, _++_}
-use mathlib.Core.Bool.{Bool}
-use lib.ListN.{length}
 use Rattle.der.specs.X690.{encoding}
-use Rattle.der.specs.Model.{LIMIT}
-use Rattle.extensions.specs.Rfc5280.{sequence, explicit, Extensions, extensions, KnownNumber, occurs, Each, listed}
+use Rattle.extensions.specs.Rfc5280.{sequence, explicit, Extensions, extensions}
 
 -- ---- X.680, 8.4: the universal tags
 unfoldable pub integer : List ℕ → List ℕ
@@ -57,9 +54,3 @@ certificate k = sequence (certificateContent k)
 -- 4.1.2.7: SubjectPublicKeyInfo ::= SEQUENCE { algorithm, subjectPublicKey BIT STRING }: its content
 unfoldable pub keyContent : List ℕ → List ℕ → List ℕ
 keyContent algorithm bits = sequence algorithm ++ bitString bits
-
--- what a reader accepts: every content is shorter than the limit, since the outermost is; 4.2: no known extension twice
-pub record Readable (strict : Bool) (k : Skeleton) : Type 0 where
-  pub short : length (certificateContent k) < LIMIT
-  pub each : Each strict (listed (k .extensions))
-  pub once : (n : ℕ) → KnownNumber n → occurs n (listed (k .extensions)) ≤ 1

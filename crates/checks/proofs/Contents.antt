@@ -31,6 +31,7 @@ contentsOf s c =
       basicConstraints = slotAt s (c .known .«basic_constraints»);
       extKeyUsage = slotAt s (c .known .«key_purposes»);
       subjectAltName = slotAt s (c .known .«alternative_name»);
+      nameConstraints = slotAt s (c .known .«name_constraints»);
     }
 
 -- the bytes are a certificate with these contents

@@ -5,3 +5,4 @@ pub mod Purposed
 pub mod Valid
 pub mod Roles
 pub mod Alone
+pub mod Differences

@@ -13,18 +13,17 @@ use Rattle.refusal.specs.Refusals.{badDer}
 use Rattle.der.specs.declared.Span.{Span}
 use Rattle.der.specs.declared.Got.{Got}
 use Rattle.der.specs.declared.Got.the-variants.{Content, Refused as NoContent}
-use Rattle.der.specs.Places.{Bytes, part}
+use Rattle.der.specs.Places.{Bytes, part, LIMIT}
 use Rattle.der.specs.X690.{encoding}
-use Rattle.der.specs.Model.{LIMIT, highTag, expectAt, onContent}
+use Rattle.der.specs.Model.{highTag, expectAt, onContent}
 use Rattle.parts.specs.Model.{sameParts}
 use Rattle.der.specs.Loop.{run, walk}
 use Rattle.der.proofs.Laws.{expect-value, value-expect}
 use Rattle.der.proofs.Invert.{peel, either}
-use Rattle.der.proofs.Parts.{part-length, part-split, part-front}
+use Rattle.der.proofs.Parts.{part-length, part-split, part-front, part-whole}
 use Rattle.parts.proofs.Equal.{same-yes, same-equal}
 use Rattle.der.proofs.Laid.{expect-laid, laid-read}
 use Rattle.der.proofs.Theorems.{value-places}
-use Rattle.extensions.proofs.Value.{part-whole}
 use Rattle.checks.specs.Conditions.{Lists, here, later, ForPurpose}
 use Rattle.checks.specs.Model.{itself, purposeStep, noPurpose, purposeIn, purposesOf}
 use Rattle.checks.proofs.Contents.{found}

@@ -6,19 +6,20 @@ use mathlib.Core.Bool.{Bool, true, false, cond}
 use lib.ListN.{length, length-append}
 use native.Mathlib.Omega.{arith}
 use borrow.Author.Tests.{ne-eqb}
-use Rattle.der.specs.Places.{Bytes, part}
+use Rattle.der.specs.Places.{Bytes, part, LIMIT}
 use Rattle.der.specs.X690.{encoding}
-use Rattle.der.specs.Model.{LIMIT}
-use Rattle.der.proofs.Parts.{part-front}
+use Rattle.der.proofs.Parts.{part-front, part-whole}
 use Rattle.parts.proofs.Equal.{same-true}
 use Rattle.cert.specs.declared.Reading.the-variants.{Accepted}
 use Rattle.extensions.specs.declared.Slot.{Slot}
 use Rattle.cert.specs.Model.{readCertificate}
-use Rattle.extensions.specs.Rfc5280.{octetString, objectIdentifier, sequence, explicit, Extension, Extensions, missing, present as given, criticality, extensionContent, extension, extensionList, extensions, KnownNumber, basicConstraints, extKeyUsage, subjectAltName, idCe, isNumber, Taken, usage, known, other, Each, more, listed}
-use Rattle.cert.specs.Rfc5280.{integer, bitString, Skeleton, version, tbsContent, tbsCertificate, certificateContent, certificate, Readable}
+use Rattle.extensions.specs.Accepted.{KnownNumber, basicConstraints, extKeyUsage, subjectAltName, nameConstraints, Taken, usage, known, other, Each, more}
+use Rattle.extensions.specs.Rfc5280.{octetString, objectIdentifier, sequence, explicit, Extension, Extensions, missing, present as given, criticality, extensionContent, extension, extensionList, extensions, idCe, isNumber, listed}
+use Rattle.cert.specs.Accepted.{Readable}
+use Rattle.cert.specs.Rfc5280.{integer, bitString, Skeleton, version, tbsContent, tbsCertificate, certificateContent, certificate}
 use Rattle.extensions.specs.Layout.{placeOf, header, valueOf, keptOf, slotFor, slots, knownAt}
 use Rattle.cert.specs.Layout.{places}
-use Rattle.extensions.proofs.Value.{part-whole, encoded-length, place-end, place-start, find-in, find-last, find-last-in}
+use Rattle.extensions.proofs.Value.{encoded-length, place-end, place-start, find-in, find-last, find-last-in}
 use Rattle.extensions.proofs.Slots.{header-is}
 use Rattle.cert.proofs.Sound.{sound}
 use Rattle.cert.proofs.Complete.{complete}
@@ -64,7 +65,7 @@ module _ (s : List ℕ) where
       }
 
   -- the value of a known one, other than key usage, is a SEQUENCE
-  sequenced : (n : ℕ) (x : Extension) → KnownNumber n → (n ≡ 15 → ⊥) → Taken true x → isNumber n x ≡ true → (content : List ℕ) × (x .value ≡ sequence content)
+  sequenced : {strict : Bool} (n : ℕ) (x : Extension) → KnownNumber n → (n ≡ 15 → ⊥) → Taken strict x → isNumber n x ≡ true → (content : List ℕ) × (x .value ≡ sequence content)
   unfolding isNumber
   sequenced n x kn h (usage e) i =
       let q : idCe 15 ≡ idCe n = sym e ∙ same-true _ _ i in
@@ -87,8 +88,8 @@ module _ (s : List ℕ) where
       rw (ne-eqb n 15 h, g)
 
   -- ---- a list of them
-  module _ (n : ℕ) (kn : KnownNumber n) (not-usage : n ≡ 15 → ⊥) where
-    list-laid : (xs : List Extension) (at to : ℕ) → Short at to → part s at to ≡ extensionList xs → Each true xs → InSequence (valueIn n xs) (slotAt s (slotFor n at xs))
+  module _ {strict : Bool} (n : ℕ) (kn : KnownNumber n) (not-usage : n ≡ 15 → ⊥) where
+    list-laid : (xs : List Extension) (at to : ℕ) → Short at to → part s at to ≡ extensionList xs → Each strict xs → InSequence (valueIn n xs) (slotAt s (slotFor n at xs))
     unfolding extensionList valueIn slotFor
     list-laid [] at to h e all = refl
     list-laid (x ∷ xs) at to h e (more t ts) =
@@ -96,14 +97,14 @@ module _ (s : List ℕ) where
         go (isNumber n x) refl v t
         (list-laid xs (at + length (extension x)) to (record { ordered = v .next; inside = h .inside; small = omega (arith, h .small) }) (v .left) ts)
       where
-        go : (b : Bool) → isNumber n x ≡ b → ValueLaid at to x (extensionList xs) → Taken true x → InSequence (valueIn n xs) (slotAt s (slotFor n (at + length (extension x)) xs))
+        go : (b : Bool) → isNumber n x ≡ b → ValueLaid at to x (extensionList xs) → Taken strict x → InSequence (valueIn n xs) (slotAt s (slotFor n (at + length (extension x)) xs))
             → InSequence (cond b (present (x .value)) (valueIn n xs)) (slotAt s (cond b (keptOf n at x) (slotFor n (at + length (extension x)) xs)))
         go true i v t r =
             let q = sequenced n x kn not-usage t i in
             (q .0, q .1, kept-laid n at to x (extensionList xs) (q .0) not-usage v (q .1))
         go false i v t r = r
 
-    extensions-laid : (es : Extensions) (at to : ℕ) → Short at to → part s at to ≡ extensions es → Each true (listed es) → InSequence (valueIn n (listed es)) (slotAt s (slotIn n at es))
+    extensions-laid : (es : Extensions) (at to : ℕ) → Short at to → part s at to ≡ extensions es → Each strict (listed es) → InSequence (valueIn n (listed es)) (slotAt s (slotIn n at es))
     unfolding extensions listed explicit sequence valueIn slotFor
     extensions-laid missing at to h e all = refl
     extensions-laid (given xs) at to h e all =
@@ -130,8 +131,13 @@ unfolding knownAt slots
 names-slot at missing = refl
 names-slot at (given xs) = refl
 
+constraints-slot : (at : ℕ) (es : Extensions) → slotIn 30 at es ≡ knownAt at es .«name_constraints»
+unfolding knownAt slots
+constraints-slot at missing = refl
+constraints-slot at (given xs) = refl
+
 -- ---- a whole certificate
-laid : (s : List ℕ) (k : Skeleton) → s ≡ certificate k → Readable true k → Describes k (contentsOf s (places k))
+pub laid : {strict : Bool} (s : List ℕ) (k : Skeleton) → s ≡ certificate k → Readable strict k → Describes k (contentsOf s (places k))
 unfolding certificate certificateContent tbsCertificate tbsContent integer sequence explicit version bitString places
 laid s k e rules =
     let w = find-last s 0 (length s) 48 (certificateContent k) refl (rules .short) (omega arith) (omega arith) (part-whole s ∙ e) in
@@ -167,6 +173,7 @@ laid s k e rules =
       basicConstraints = rw (← basic-slot (key .end) (k .extensions)) (extensions-laid s 19 basicConstraints (λ q. omega arith) (k .extensions) (key .end) end rest (y .left) (rules .each));
       extKeyUsage = rw (← purposes-slot (key .end) (k .extensions)) (extensions-laid s 37 extKeyUsage (λ q. omega arith) (k .extensions) (key .end) end rest (y .left) (rules .each));
       subjectAltName = rw (← names-slot (key .end) (k .extensions)) (extensions-laid s 17 subjectAltName (λ q. omega arith) (k .extensions) (key .end) end rest (y .left) (rules .each));
+      nameConstraints = rw (← constraints-slot (key .end) (k .extensions)) (extensions-laid s 30 nameConstraints (λ q. omega arith) (k .extensions) (key .end) end rest (y .left) (rules .each));
     }
 
 pub reads-certificate : (s : List ℕ) → Bytes s → (o : Contents) → Reads s o → IsCertificate s o
@@ -235,11 +242,12 @@ contents-once k rules o p d e =
     let g = sequence-once (valueIn 19 (listed (k .extensions))) _ _ (value-short 19 (listed (k .extensions)) h) (d .basicConstraints) (e .basicConstraints) in
     let i = sequence-once (valueIn 37 (listed (k .extensions))) _ _ (value-short 37 (listed (k .extensions)) h) (d .extKeyUsage) (e .extKeyUsage) in
     let j = sequence-once (valueIn 17 (listed (k .extensions))) _ _ (value-short 17 (listed (k .extensions)) h) (d .subjectAltName) (e .subjectAltName) in
-    same-contents o p a b c f g i j
+    let l = sequence-once (valueIn 30 (listed (k .extensions))) _ _ (value-short 30 (listed (k .extensions)) h) (d .nameConstraints) (e .nameConstraints) in
+    same-contents o p a b c f g i j l
   where
     same-contents : (o p : Contents) → o .issuer ≡ p .issuer → o .validity ≡ p .validity → o .subject ≡ p .subject → o .key ≡ p .key
-        → o .basicConstraints ≡ p .basicConstraints → o .extKeyUsage ≡ p .extKeyUsage → o .subjectAltName ≡ p .subjectAltName → o ≡ p
-    same-contents o p a b c f g i j = rw (a, b, c, f, g, i, j)
+        → o .basicConstraints ≡ p .basicConstraints → o .extKeyUsage ≡ p .extKeyUsage → o .subjectAltName ≡ p .subjectAltName → o .nameConstraints ≡ p .nameConstraints → o ≡ p
+    same-contents o p a b c f g i j l = rw (a, b, c, f, g, i, j, l)
 
 pub certificate-reads : (s : List ℕ) (o : Contents) → IsCertificate s o → Reads s o
 certificate-reads s o x =

@@ -7,11 +7,11 @@ use mathlib.Core.Bool.{Bool, true, false}
 use mathlib.Core.Logic.{_⊎_}
 use lib.ListN.{length}
 use Rattle.der.specs.X690.{encoding, truth, Natural}
-use Rattle.der.specs.Model.{LIMIT}
+use Rattle.der.specs.Places.{LIMIT}
 use Rattle.moment.specs.Calendar.{IsTime, utc, generalized}
 
 -- ---- 4.1.2.5: Validity ::= SEQUENCE { notBefore Time, notAfter Time }; 6.1.3 (a) (2): it includes the time, and its ends belong to it. No
--- time is before 1970 (stricter); GeneralizedTime may write years before 2050, which 4.1.2.5 forbids to CAs
+-- time is before 1970 (stricter, D6); GeneralizedTime may write years before 2050, which 4.1.2.5 forbids to CAs
 -- Time ::= CHOICE { utcTime, generalTime }
 abbrev pub IsMoment : List ℕ → ℕ → Type 0
 IsMoment bytes n = IsTime utc bytes n ⊎ IsTime generalized bytes n
@@ -42,7 +42,7 @@ pub data Bound : Type 0 where
   unbounded : Bound
   atMost : ℕ → Bound
 
--- numbers above 255 are refused (stricter)
+-- numbers above 255 are refused (stricter, D33)
 pub data PathLength (bytes : List ℕ) (bound : Bound) : Type 0 where
   none : bytes ≡ [] → bound ≡ unbounded → PathLength bytes bound
   some : (n : ℕ) (content : List ℕ) → n < 256 → Natural n content → bytes ≡ encoding 2 content → bound ≡ atMost n → PathLength bytes bound
@@ -64,18 +64,18 @@ pub data Role : Type 0 where
   endEntity : Role
   issuer : ℕ → Role
 
--- 6.1.4 (l), (m), but self-issued intermediates count too (stricter)
+-- 6.1.4 (l), (m), but self-issued intermediates count too (stricter, D30)
 abbrev pub Allows : Bound → ℕ → Type 0
 Allows unbounded below = Unit {0}
 Allows (atMost n) below = below ≤ n
 
--- 6.1.4 (k): every issuer is a CA; that the end entity is none is no rule of RFC 5280 (stricter)
+-- 6.1.4 (k): every issuer is a CA; that the end entity is none is no rule of RFC 5280 (stricter, D48)
 abbrev pub InRole : Role → Optional → Type 0
 InRole endEntity extension = (bound : Bound) × Constrained extension false bound
 InRole (issuer below) extension = (bound : Bound) × Constrained extension true bound × Allows bound below
 
 -- ---- 4.2.1.12: ExtKeyUsageSyntax ::= SEQUENCE SIZE (1..MAX) OF KeyPurposeId
--- the wanted purpose is among them, of issuers too (stricter), and anyExtendedKeyUsage is one like others (stricter); what comes after it is not looked at
+-- the wanted purpose is among them, of issuers too (stricter, D49), and anyExtendedKeyUsage is one like others (stricter, D34); what comes after it is not looked at
 pub data Lists (wanted : List ℕ) : List ℕ → Type 0 where
   here : {content : List ℕ} (rest : List ℕ) → length wanted < LIMIT → content ≡ encoding 6 wanted ++ rest → Lists wanted content
   later : {content : List ℕ} (other rest : List ℕ) → length other < LIMIT → content ≡ encoding 6 other ++ rest → Lists wanted rest → Lists wanted content
@@ -94,3 +94,4 @@ pub record Contents : Type 0 where
   pub basicConstraints : Optional
   pub extKeyUsage : Optional
   pub subjectAltName : Optional
+  pub nameConstraints : Optional

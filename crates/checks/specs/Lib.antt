@@ -1,3 +1,4 @@
 pub mod Conditions
+pub mod Conforming
 pub mod Skeletons
 pub mod Model

@@ -4,7 +4,8 @@ use mathlib.Core.Path.{_≡_}
 use mathlib.Core.List.{List, [], _∷_}
 use mathlib.Core.Bool.{true, cond}
 use Rattle.extensions.specs.Rfc5280.{Extension, listed, sequence, isNumber}
-use Rattle.cert.specs.Rfc5280.{Skeleton, certificate, Readable}
+use Rattle.cert.specs.Accepted.{Readable}
+use Rattle.cert.specs.Rfc5280.{Skeleton, certificate}
 use Rattle.checks.specs.Conditions.{Optional, absent, present, Contents}
 
 -- the value of extension n, where the list has it
@@ -25,6 +26,7 @@ pub record Describes (k : Skeleton) (o : Contents) : Type 0 where
   pub basicConstraints : InSequence (valueIn 19 (listed (k .extensions))) (o .basicConstraints)
   pub extKeyUsage : InSequence (valueIn 37 (listed (k .extensions))) (o .extKeyUsage)
   pub subjectAltName : InSequence (valueIn 17 (listed (k .extensions))) (o .subjectAltName)
+  pub nameConstraints : InSequence (valueIn 30 (listed (k .extensions))) (o .nameConstraints)
 
 -- the bytes are the encoding of a certificate with these contents, which keeps the rules of a reader
 pub record IsCertificate (s : List ℕ) (o : Contents) : Type 0 where

@@ -5,7 +5,7 @@ use mathlib.Core.List.{List, [], _∷_, map}
 use lib.Dec.{ltb}
 use lib.ListN.{length, getD}
 use Rattle.der.specs.Places.{Bytes}
-use Rattle.constraints.specs.Conform.{EachBytes}
+use Rattle.constraints.specs.Cost.{EachBytes}
 use Rattle.lent.specs.Lent.{certificateOf}
 use Rattle.dialogue.specs.Model.{Path}
 use Rattle.conditions.specs.Request.{Request}

@@ -1,5 +1,15 @@
 pub mod Lent
-pub mod Paths
 pub mod Names
+pub mod OneList
+pub mod NeverWeaker
+pub mod MailWitness
+pub mod ExactPath
+pub mod ExactAll
+pub mod Paths
 pub mod Closed
 pub mod Decided
+pub mod Accepts
+pub mod Costs
+pub mod Room
+pub mod WitnessPaths
+pub mod WitnessLists

@@ -52,7 +52,7 @@ slot-empty n at (x ∷ xs) h = by (isNumber n x) h (slot-empty n (at + length (e
     by true h rest = true-false h
     by false h rest = rest h
 
-known-empty : (at : ℕ) (es : Extensions) → knownAt at es .«alternative_name» .known ≡ false → (knownAt at es .«alternative_name» .start ≡ 0) × (knownAt at es .«alternative_name» .end ≡ 0)
+pub known-empty : (at : ℕ) (es : Extensions) → knownAt at es .«alternative_name» .known ≡ false → (knownAt at es .«alternative_name» .start ≡ 0) × (knownAt at es .«alternative_name» .end ≡ 0)
 unfolding knownAt slots
 known-empty at missing h = slot-empty 17 0 [] h
 known-empty at (given xs) h = slot-empty 17 _ xs h

@@ -6,25 +6,30 @@ use mathlib.Core.List.{List, [], _∷_, List·Memᴰ, List·Memᴰ·head, List·
 use native.Mathlib.Omega.{arith}
 use lib.ListN.{length, getD}
 use Rattle.cert.specs.declared.Reading.the-variants.{Accepted}
-use Rattle.candidate.specs.declared.Verdict.the-variants.{Extend}
+use Rattle.candidate.specs.declared.Verdict.the-variants.{Anchor, Extend}
 use Rattle.lent.specs.Lent.{mostIntermediates, newest}
 use Rattle.checks.specs.Conditions.{Contents, Role, issuer, InValidity, InRole, ForPurpose}
 use Rattle.path.specs.Conditions.{Trusted, Fit, Same}
 use Rattle.checks.specs.Skeletons.{IsCertificate}
-use Rattle.candidate.specs.Candidates.{Extends, Anchors}
+use Rattle.candidate.specs.Candidates.{Whole, Extends, Anchors}
 use Rattle.candidate.specs.Paths.{InOrder}
 use Rattle.asked.specs.Questions.{Opens}
 use Rattle.checks.proofs.Contents.{contentsOf}
 use Rattle.checks.proofs.Skeletons.{certificate-reads}
 use Rattle.candidate.proofs.Verdicts.{extend-sound, anchor-sound, anchor-complete}
 use Rattle.candidate.proofs.Paths.{Grown, grown-in-order, in-order-grown}
-use Rattle.dialogue.specs.Model.{Path, signatures}
+use Rattle.dialogue.specs.Log.{What}
+use Rattle.dialogue.specs.Model.{Path, staged}
 use Rattle.dialogue.specs.Acceptable.{InOrder as Cleared, Grown as Reached, start, grow, Acceptable}
 use Rattle.machine.specs.World.{worldOf}
-use Rattle.conditions.specs.Request.{Request}
-use Rattle.conditions.specs.Model.{worldFor, endOf}
-use Rattle.conditions.specs.Conditions.{Lends, Each, InPlace, Chain, Apart, bytesOf, Numbers, Readable, Signed, Named, Conditions}
+use Rattle.conditions.specs.Request.{Request, endOf}
+use Rattle.conditions.specs.Model.{worldFor}
+use Rattle.conditions.specs.Conditions.{Lends, Each, InPlace, Chain, Apart, bytesOf, Numbers, Readable, Signed, Named}
+use Rattle.conditions.specs.Exactly.{ExactlyMet, constraintsOf}
+use Rattle.conditions.specs.Meets.{Stands, Meets}
+use Rattle.conditions.specs.Claims.{passed}
 use Rattle.conditions.proofs.Lent.{bytes}
+use Rattle.conditions.proofs.ExactAll.{exactly}
 
 -- one string has one list of contents
 one-contents : (s : List ℕ) (o p : Contents) → IsCertificate s o → IsCertificate s p → o ≡ p
@@ -155,7 +160,7 @@ module _ (R : Request) (lent : Lends R) where
 
   -- ---- the growth of a path, as the search and as crate `path` put it
   abbrev Rises : Path → Type 0
-  Rises path = Grown (R .issuers) (R .end) (R .subjects) (R .keys) (R .distrusted) (R .time) (R .purpose) (R .demanded) (bytes R lent) path
+  Rises path = Grown (R .issuers) (R .end) (R .subjects) (R .keys) (R .constraints) (R .bound) (R .distrusted) (R .time) (R .purpose) (R .demanded) (bytes R lent) path
 
   rises : {path : Path} → Reached (worldFor R) (endOf R) path → Rises path × Numbers R path
   unfolding worldOf Numbers
@@ -165,7 +170,7 @@ module _ (R : Request) (lent : Lends R) where
       by : (p : Path) → Rises p × Numbers R p → worldFor R .verdict p i ≡ Extend → worldFor R .check (i ∷ p) ≡ 0 → Rises (i ∷ p) × Numbers R (i ∷ p)
       by [] r v h = absurd (r .0)
       by (n ∷ ns) r v h =
-          ((r .0, v, h), (extend-sound (R .issuers) (R .end) (R .subjects) (R .keys) (R .distrusted) (n ∷ ns) i (bytes R lent) v .candidate, l, r .1))
+          ((r .0, v, h), (extend-sound (R .issuers) (R .end) (R .subjects) (R .keys) (R .constraints) (R .bound) (R .distrusted) (n ∷ ns) i (bytes R lent) v .candidate, l, r .1))
 
   reached : (path : Path) → Rises path → Numbers R path → Reached (worldFor R) (endOf R) path
   unfolding worldOf Numbers
@@ -174,24 +179,37 @@ module _ (R : Request) (lent : Lends R) where
       subst (λ (x : ℕ). Reached (worldFor R) (endOf R) (x ∷ [])) (sym m) (start (subst (λ (x : ℕ). worldFor R .check (x ∷ []) ≡ 0) m g))
   reached (i ∷ (n ∷ ns)) g m = grow i (reached (n ∷ ns) (g .0) (m .2)) (m .1) (g .1) (g .2)
 
+  -- what is grown can be read, and an anchor that is one to try is one
+  pub grown-read : (path : Path) → Reached (worldFor R) (endOf R) path → Numbers R path × ((os : List Contents) × Readable R path os)
+  unfolding worldOf
+  grown-read path g =
+      let r = rises g in
+      let s = shape path (grown-in-order (R .issuers) (R .end) (R .subjects) (R .keys) (R .constraints) (R .bound) (R .distrusted) (R .time) (R .purpose) (R .demanded) (bytes R lent) path (r .0)) in
+      (r .1, (s .contents, s .readable))
+
+  pub anchor-below : (path : Path) (anchor : ℕ) → worldFor R .verdict path anchor ≡ Anchor → anchor < length (R .subjects)
+  unfolding worldOf
+  anchor-below path anchor e = anchor-sound (R .issuers) (R .end) (R .subjects) (R .keys) (R .constraints) (R .bound) (R .distrusted) path anchor (bytes R lent) e .candidate
+
   -- ---- the signatures
-  module _ (Yes : ℕ → ℕ → Type 0) where
+  module _ (Yes : ℕ → What → Type 0) where
     -- a key that can be read, and a yes
-    abbrev pub Answered : ℕ → ℕ → Type 0
+    abbrev pub Answered : ℕ → What → Type 0
     Answered key what = Opens (R .issuers) (R .end) (R .keys) (length (R .subjects)) key × Yes key what
 
-    signed : (key : ℕ) (path : Path) → Cleared Answered (signatures key path) → Signed R Yes key path
-    unfolding signatures Signed
+    signed : (key : ℕ) (path : Path) → Cleared Answered (staged (worldFor R) key path) → Signed R Yes key path
+    unfolding staged worldOf Signed
     signed key [] h = tt
     signed key (n ∷ ns) h = (h .0 .0, h .0 .1, signed n ns (h .1))
 
-    cleared : (key : ℕ) (path : Path) → Signed R Yes key path → Cleared Answered (signatures key path)
-    unfolding signatures Signed
+    cleared : (key : ℕ) (path : Path) → Signed R Yes key path → Cleared Answered (staged (worldFor R) key path)
+    unfolding staged worldOf Signed
     cleared key [] h = tt
     cleared key (n ∷ ns) h = ((h .0, h .1), cleared n ns (h .2))
 
     module _ (Content : ℕ → Path → Type 0) (anchor : ℕ) where
-      chained : (path : Path) → Anchors (R .issuers) (R .end) (R .subjects) (R .keys) (R .distrusted) path anchor → (os : List Contents) → Readable R path os → Linked os → Chain (getD (R .subjects) anchor []) os
+      chained : (path : Path) → Anchors (R .issuers) (R .end) (R .subjects) (R .keys) (R .distrusted) path anchor (R .constraints) (R .bound)
+          → (os : List Contents) → Readable R path os → Linked os → Chain (getD (R .subjects) anchor []) os
       unfolding Readable Chain newest
       chained [] x [] r l = tt
       chained [] x (o ∷ os) r l = absurd r
@@ -200,17 +218,25 @@ module _ (R : Request) (lent : Lends R) where
           let head : x .head ≡ o = one-contents (bytesOf R n) (x .head) o (x .newest-is) (r .0) in
           (x .chained ∙ ap (λ (y : Contents). y .issuer) head, l)
 
-      pub conditions : (path : Path) → Acceptable (worldFor R) (endOf R) Answered Content anchor path → Named R → Conditions R Yes Content anchor path
+      -- what the constraints come to, of a path that can be read
+      constrained : (path : Path) (os : List Contents) → Whole (R .constraints) (R .bound) anchor → Numbers R path → Readable R path os → passed R anchor path ↔ ExactlyMet (constraintsOf R anchor) os
+      unfolding Numbers
+      constrained [] os w m r = absurd m
+      constrained (n ∷ path) os w m r = exactly R lent anchor n w path os r
+
+      pub stands : (path : Path) → Acceptable (worldFor R) (endOf R) Answered Content anchor path → Stands R Yes anchor path
       unfolding worldOf
-      conditions path a name =
+      stands path a =
           let g = rises (a .grown) in
-          let s = shape path (grown-in-order (R .issuers) (R .end) (R .subjects) (R .keys) (R .distrusted) (R .time) (R .purpose) (R .demanded) (bytes R lent) path (g .0)) in
-          let x = anchor-sound (R .issuers) (R .end) (R .subjects) (R .keys) (R .distrusted) path anchor (bytes R lent) (a .anchored) in
+          let order = grown-in-order (R .issuers) (R .end) (R .subjects) (R .keys) (R .constraints) (R .bound) (R .distrusted) (R .time) (R .purpose) (R .demanded) (bytes R lent) path (g .0) in
+          let s = shape path order in
+          let x = anchor-sound (R .issuers) (R .end) (R .subjects) (R .keys) (R .constraints) (R .bound) (R .distrusted) path anchor (bytes R lent) (a .anchored) in
           record {
             numbers = g .1;
             few = a .few;
             anchored = x .candidate;
             keyed = x .keyed;
+            whole = x .whole;
             contents = s .contents;
             readable = s .readable;
             chained = chained path x (s .contents) (s .readable) (s .linked);
@@ -221,9 +247,7 @@ module _ (R : Request) (lent : Lends R) where
             purposed = s .purposed;
             apart = s .apart;
             signed = signed anchor path (a .signed);
-            constrained = a .named;
-            named = name;
-            content = a .content;
+            constrained = constrained path (s .contents) (x .whole) (g .1) (s .readable) .0 (a .named);
           }
 
       linked : (subject : List ℕ) (os : List Contents) → Chain subject os → Linked os
@@ -231,29 +255,31 @@ module _ (R : Request) (lent : Lends R) where
       linked subject [] h = tt
       linked subject (o ∷ os) h = h .1
 
-      above : (path : Path) (os : List Contents) → length path ≤ suc mostIntermediates → anchor < length (R .subjects) → anchor < length (R .keys) → Trusted (R .distrusted) (getD (R .keys) anchor [])
-          → Numbers R path → Readable R path os → Chain (getD (R .subjects) anchor []) os → Anchors (R .issuers) (R .end) (R .subjects) (R .keys) (R .distrusted) path anchor
+      above : (path : Path) (os : List Contents) → length path ≤ suc mostIntermediates → anchor < length (R .subjects) → anchor < length (R .keys) → Whole (R .constraints) (R .bound) anchor
+          → Trusted (R .distrusted) (getD (R .keys) anchor [])
+          → Numbers R path → Readable R path os → Chain (getD (R .subjects) anchor []) os
+          → Anchors (R .issuers) (R .end) (R .subjects) (R .keys) (R .distrusted) path anchor (R .constraints) (R .bound)
       unfolding Numbers Readable Chain newest
-      above [] os few c k t m r l = absurd m
-      above (n ∷ ns) [] few c k t m r l = absurd r
-      above (n ∷ ns) (o ∷ os) few c k t m r l = record { few = few; candidate = c; keyed = k; head = o; newest-is = r .0; chained = l .0; trusted = t }
+      above [] os few c k w t m r l = absurd m
+      above (n ∷ ns) [] few c k w t m r l = absurd r
+      above (n ∷ ns) (o ∷ os) few c k w t m r l = record { few = few; candidate = c; keyed = k; whole = w; head = o; newest-is = r .0; chained = l .0; trusted = t }
 
-      pub acceptable : (path : Path) → Conditions R Yes Content anchor path → Acceptable (worldFor R) (endOf R) Answered Content anchor path
+      pub acceptable : (path : Path) → Stands R Yes anchor path → Content anchor path → Acceptable (worldFor R) (endOf R) Answered Content anchor path
       unfolding worldOf
-      acceptable path d =
+      acceptable path d content =
           let order = ordered path (d .contents) (d .few) (d .numbers) (d .readable) (linked (getD (R .subjects) anchor []) (d .contents) (d .chained)) (d .trusted) (d .valid) (d .placed) (d .purposed) (d .apart) in
-          let g = in-order-grown (R .issuers) (R .end) (R .subjects) (R .keys) (R .distrusted) (R .time) (R .purpose) (R .demanded) (bytes R lent) path order in
-          let x = above path (d .contents) (d .few) (d .anchored) (d .keyed) (d .anchor-trusted) (d .numbers) (d .readable) (d .chained) in
+          let g = in-order-grown (R .issuers) (R .end) (R .subjects) (R .keys) (R .constraints) (R .bound) (R .distrusted) (R .time) (R .purpose) (R .demanded) (bytes R lent) path order in
+          let x = above path (d .contents) (d .few) (d .anchored) (d .keyed) (d .whole) (d .anchor-trusted) (d .numbers) (d .readable) (d .chained) in
           record {
             grown = reached path g (d .numbers);
             few = d .few;
             candidate = omega (arith, d .anchored);
-            anchored = anchor-complete (R .issuers) (R .end) (R .subjects) (R .keys) (R .distrusted) path anchor (bytes R lent) x;
+            anchored = anchor-complete (R .issuers) (R .end) (R .subjects) (R .keys) (R .constraints) (R .bound) (R .distrusted) path anchor (bytes R lent) x;
             signed = cleared anchor path (d .signed);
-            named = d .constrained;
-            content = d .content;
+            named = constrained path (d .contents) (d .whole) (d .numbers) (d .readable) .1 (d .constrained);
+            content = content;
           }
 
       -- THEOREM: the conditions are just what the search goes by
-      pub exactly : (path : Path) → Conditions R Yes Content anchor path ↔ (Acceptable (worldFor R) (endOf R) Answered Content anchor path × Named R)
-      exactly path = (λ d. (acceptable path d, d .named), λ h. conditions path (h .0) (h .1))
+      pub meets-acceptable : (path : Path) → Meets R Yes Content anchor path ↔ (Acceptable (worldFor R) (endOf R) Answered Content anchor path × Named R)
+      meets-acceptable path = (λ m. (acceptable path (m .stands) (m .content), m .named), λ h. record { stands = stands path (h .0); named = h .1; content = h .0 .content })

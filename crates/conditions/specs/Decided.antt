@@ -2,35 +2,20 @@
 use Prim.Native.Nat.{ℕ, suc, _+_, _*_, _≤_}
 use mathlib.Core.Path.{_≡_}
 use mathlib.Core.Bool.{true, false}
-use mathlib.Core.List.{List, [], _∷_, _++_, List·Memᴰ}
+use mathlib.Core.List.{List, [], _∷_, _++_}
 use lib.ListN.{length, take}
 use Rattle.refusal.specs.Refusals.{isFatal, unknownIssuer}
 use Rattle.cert.specs.declared.Reading.the-variants.{Refused as Unreadable}
 use Rattle.cert.specs.Model.{readCertificate}
+use Rattle.dialogue.specs.Log.{Turn, word, SaidYes, SaidContent, NotDenied, NotDeclined, yeses, EndsWith}
 use Rattle.dialogue.specs.Model.{Path, Outcome, accepted, refused, spent, events}
-use Rattle.dialogue.specs.Dialogue.{Turn, answer, word, Leads, asked, Oracle, Veto, Agrees}
+use Rattle.dialogue.specs.Dialogue.{Leads}
 use Rattle.dialogue.specs.Account.{Account, ownCost, Exhausted, UsedUp}
-use Rattle.dialogue.specs.Acceptable.{GivenContent, ByContent}
 use Rattle.dialogue.specs.Work.{placed, weight, aTry, lookups, looks, checkLooks, entered, levelLookups, levelLooks}
-use Rattle.conditions.specs.Request.{Request, Budgets}
-use Rattle.conditions.specs.Model.{nameOf, worldFor, endOf, searchOf}
-use Rattle.conditions.specs.Conditions.{Named, Conditions}
-
--- the answer 0 is yes: given among the turns, and by a function
-abbrev pub GivenYes : List Turn → ℕ → ℕ → Type 0
-GivenYes turns key what = List·Memᴰ (answer key what 0) turns
-
-abbrev pub ByYes : Oracle → ℕ → ℕ → Type 0
-ByYes o key what = o key what ≡ 0
-
--- every signature of a path, from the anchor's key down, answered yes
-unfoldable pub yeses : ℕ → Path → List Turn
-yeses key [] = []
-yeses key (n ∷ ns) = answer key n 0 ∷ yeses n ns
-
--- the dialogue ends with these very turns, and the caller content
-abbrev pub Closes : List Turn → ℕ → Path → Type 0
-Closes turns anchor path = (earlier : List Turn) × (turns ≡ earlier ++ (yeses anchor path ++ (word anchor path 0 ∷ [])))
+use Rattle.conditions.specs.Request.{Request, Budgets, endOf}
+use Rattle.conditions.specs.Model.{nameOf, worldFor, searchOf}
+use Rattle.conditions.specs.Conditions.{Named}
+use Rattle.conditions.specs.Meets.{Meets}
 
 module _ (R : Request) (B : Budgets) (turns : List Turn) where
   -- which no
@@ -64,16 +49,14 @@ module _ (R : Request) (B : Budgets) (turns : List Turn) where
 
   pub record Decided (r : Outcome) : Type 0 where
     -- yes means yes: an accepted path meets the conditions, by answers of this dialogue, the last of which were asked for, and given, for this very path
-    pub yes : (anchor : ℕ) (path : Path) → r ≡ accepted anchor path → Conditions R (GivenYes turns) (GivenContent turns) anchor path
-    pub closing : (anchor : ℕ) (path : Path) → r ≡ accepted anchor path → Closes turns anchor path
-    -- no means no: after a refusal no anchor and path meet them, for any functions that agree with the answers given
-    pub no : (x : ℕ) → r ≡ refused x → (o : Oracle) (v : Veto) → Agrees o v turns → (anchor : ℕ) (path : Path) → Conditions R (ByYes o) (ByContent v) anchor path → ⊥
+    pub yes : (anchor : ℕ) (path : Path) → r ≡ accepted anchor path → Meets R (SaidYes turns) (SaidContent turns) anchor path
+    pub closing : (anchor : ℕ) (path : Path) → r ≡ accepted anchor path → EndsWith turns (yeses anchor path ++ (word anchor path 0 ∷ []))
+    -- no means no: after a refusal no anchor and path meet them; each that meets the others was denied, or declined
+    pub no : (x : ℕ) → r ≡ refused x → (anchor : ℕ) (path : Path) → Meets R (NotDenied turns) (NotDeclined turns) anchor path → ⊥
     pub which : (x : ℕ) → r ≡ refused x → Which x
     -- and it says of no budget that it is used up
     pub not-fatal : (x : ℕ) → r ≡ refused x → isFatal x ≡ false
     -- the third end is a budget, used up: one more was wanted than is allowed
     pub used-up : (x : ℕ) → r ≡ spent x → UsedUp (worldFor R) (endOf R) (B .signatures) (B .extensions) (B .comparisons) turns x
     pub fatal : (x : ℕ) → r ≡ spent x → isFatal x ≡ true
-    -- at most S signature questions
-    pub questions : asked turns ≤ B .signatures
     pub work : Work

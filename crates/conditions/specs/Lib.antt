@@ -1,5 +1,13 @@
 pub mod Request
 pub mod Model
 pub mod Conditions
-pub mod Rfc5280Names
+pub mod Room
+pub mod Exactly
+pub mod Claims
+pub mod RfcNames
+pub mod RfcMail
+pub mod Meets
+pub mod Rfc5280Path
+pub mod RfcAccepts
+pub mod Witnesses
 pub mod Decided

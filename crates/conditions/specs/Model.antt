@@ -1,9 +1,8 @@
 -- The dialogue that a request is: the end entity is read, a path is searched, and the end entity must be good for the name.
-use Prim.Native.Nat.{ℕ, _+_}
+use Prim.Native.Nat.{ℕ}
 use mathlib.Core.Bool.{true, cond}
 use mathlib.Core.List.{List}
 use lib.Dec.{eqb}
-use lib.ListN.{length}
 use Rattle.refusal.specs.Refusals.{certNotValidForName}
 use Rattle.cert.specs.declared.Certificate.{Certificate}
 use Rattle.cert.specs.Model.{readCertificate}
@@ -13,7 +12,7 @@ use Rattle.names.specs.Model.{goodForDns, goodForIp}
 use Rattle.path.specs.Model.{onReading}
 use Rattle.dialogue.specs.Model.{World, Outcome, accepted, refused, spent, Tree, done, ask, offer, unless, search}
 use Rattle.machine.specs.World.{worldOf}
-use Rattle.conditions.specs.Request.{Request, Budgets}
+use Rattle.conditions.specs.Request.{Request, Budgets, endOf}
 
 -- ---- the name: a refusal or none
 unfoldable pub refusalIn : Verdict → ℕ
@@ -49,10 +48,6 @@ closed e (offer anchor path t) = offer anchor path (λ a. closed e (t a))
 abbrev pub worldFor : Request → World
 worldFor R =
     worldOf (R .issuers) (R .end) (R .subjects) (R .keys) (R .constraints) (R .bound) (R .distrusted) (R .time) (R .purpose) (R .demanded)
-
--- the number of the end entity
-abbrev pub endOf : Request → ℕ
-endOf R = length (R .subjects) + length (R .issuers)
 
 abbrev pub searchOf : Request → Budgets → Tree
 searchOf R B = search (worldFor R) (endOf R) (B .signatures) (B .extensions) (B .comparisons)

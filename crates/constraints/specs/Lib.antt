@@ -1,3 +1,3 @@
 pub mod Paths
 pub mod Model
-pub mod Conform
+pub mod Cost

@@ -8,9 +8,9 @@ use native.Mathlib.Omega.{arith}
 use Rattle.der.specs.declared.Read.the-variants.{Value}
 use Rattle.der.specs.declared.Span.{Span}
 use Rattle.der.specs.declared.Got.the-variants.{Content}
-use Rattle.der.specs.Places.{Bytes, part}
+use Rattle.der.specs.Places.{Bytes, part, LIMIT}
 use Rattle.der.specs.X690.{lengthBytes, encoding}
-use Rattle.der.specs.Model.{LIMIT, highTag, readValue, expectAt}
+use Rattle.der.specs.Model.{highTag, readValue, expectAt}
 use Rattle.der.proofs.Laws.{expect-value}
 use Rattle.der.proofs.Parts.{part-length, part-front, part-tail}
 use Rattle.der.proofs.Theorems.{value-places, value-low, accepted-is-encoded, encoded-is-accepted}

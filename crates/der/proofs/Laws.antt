@@ -1,4 +1,4 @@
--- Laws of the definitions of `specs/Reader.antt`. Assumes nothing.
+-- Laws of the definitions of `specs/Model.antt`. Assumes nothing.
 use Prim.Native.Nat.{ℕ, zero, suc, _+_, _-_, _*_, _%_, _^_, _≤_, _<_}
 use mathlib.Core.Path.{_≡_, refl, sym, ap, _∙_}
 use mathlib.Core.List.{List}

@@ -3,7 +3,7 @@ use Prim.Native.Nat.{ℕ, suc, _+_, _-_, _≤_, _<_}
 use mathlib.Core.Path.{_≡_, refl, sym, ap, _∙_}
 use mathlib.Core.List.{List, [], _∷_, _++_}
 use lib.ListN.{length, getD, drop, length-take, length-drop, length-append}
-use lib.Seq.{take-add, drop-drop, take-suc, getD-take, getD-drop, drop-cons}
+use lib.Seq.{take-all, take-add, drop-drop, take-suc, getD-take, getD-drop, drop-cons}
 use native.Mathlib.Omega.{arith}
 use native.Mathlib.Numerals.{add-one}
 use Rattle.der.specs.Places.{part}
@@ -15,6 +15,11 @@ part-length s a b h = simp (length-take, length-drop) (omega arith)
 pub part-at : (s : List ℕ) (a b i : ℕ) → i < b - a → getD (part s a b) i 0 ≡ getD s (a + i) 0
 unfolding part
 part-at s a b i h = rw (getD-take, getD-drop)
+
+-- all of it
+pub part-whole : (s : List ℕ) → part s 0 (length s) ≡ s
+unfolding part
+part-whole s = take-all (length s - 0) s (omega arith)
 
 -- a part is the part up to b, and the part from b on
 pub part-split : (s : List ℕ) (a b c : ℕ) → a ≤ b → b ≤ c → part s a c ≡ part s a b ++ part s b c

@@ -5,6 +5,7 @@ use mathlib.Core.List.{List}
 use mathlib.Core.Bool.{Bool, cond}
 use lib.ListN.{length, getD}
 use lib.Dec.{ltb, leb, eqb}
+use Rattle.der.specs.Places.{LIMIT}
 use Rattle.der.specs.declared.Length.{Length}
 use Rattle.der.specs.declared.Length.the-variants.{Is, Bad}
 use Rattle.der.specs.declared.Read.{Read}
@@ -61,10 +62,6 @@ readLimited s from to limit =
     (cond (leb to from)
     Refused
     (cond (highTag (getD s from 0)) Refused (withLength (getD s from 0) to limit (readLength s (from + 1) to))))
-
--- every content in a certificate is shorter
-abbrev pub LIMIT : ℕ
-LIMIT = 65535
 
 unfoldable pub readValue : List ℕ → ℕ → ℕ → Read
 readValue s from to = readLimited s from to LIMIT

@@ -10,3 +10,7 @@ Bytes s = (i : ℕ) → getD s i 0 < 256
 -- the bytes of s from a up to, not including, b
 unfoldable pub part : List ℕ → ℕ → ℕ → List ℕ
 part s a b = take (b - a) (drop a s)
+
+-- every content in a certificate that is read is shorter
+abbrev pub LIMIT : ℕ
+LIMIT = 65535

@@ -2,9 +2,9 @@
 use Prim.Native.Nat.{ℕ, zero, suc, _+_, _-_, _*_, _/_, _%_, _^_, _≤_, _<_}
 use mathlib.Core.Path.{_≡_}
 use mathlib.Core.List.{List, [], _∷_, _++_}
-use mathlib.Core.Bool.{Bool, true, false, cond}
+use mathlib.Core.Bool.{Bool, true, false, cond, _&&_}
 use lib.ListN.{length, getD}
-use lib.Dec.{ltb}
+use lib.Dec.{ltb, eqb}
 
 -- n in k octets, the most significant first
 unfoldable pub bigEndian : ℕ → ℕ → List ℕ
@@ -72,6 +72,18 @@ pub record BitString (unused : ℕ) (octets : List ℕ) : Type 0 where
 pub record NamedBits (unused : ℕ) (octets : List ℕ) : Type 0 where
   pub string : BitString unused octets
   pub last : (octets ≡ [] → ⊥) → (getD octets (length octets - 1) 0 / 2 ^ unused) % 2 ≡ 1
+
+-- ---- 8.19: OBJECT IDENTIFIER
+-- 8.19.2: subidentifiers, one after the other. In each, bit 8 is 1 in every octet but the last, and the first octet is not 80 (hex). `fresh` says that a
+-- subidentifier begins with the next octet
+unfoldable pub subidentifiers : Bool → List ℕ → Bool
+subidentifiers fresh [] = fresh
+subidentifiers fresh (x ∷ xs) = cond (fresh && eqb x 128) false (subidentifiers (ltb x 128) xs)
+
+-- 8.19.3 and 8.19.4: the first two components share a subidentifier, so there is one or more
+pub record ObjectIdentifier (content : List ℕ) : Type 0 where
+  pub some : content ≡ [] → ⊥
+  pub series : subidentifiers true content ≡ true
 
 -- the octets without the zero octets at their end
 abbrev pub keepOctet : ℕ → List ℕ → List ℕ

@@ -6,7 +6,8 @@ use mathlib.Core.List.{List, [], _∷_, _++_, append-nil}
 use native.Mathlib.Omega.{arith}
 use Rattle.refusal.specs.Refusals.{isFatal, unknownIssuer, maximumSignatureChecksExceeded}
 use Rattle.dialogue.specs.Model.{World, Event, Outcome, spent, events, search}
-use Rattle.dialogue.specs.Dialogue.{Turn, Leads, asked}
+use Rattle.dialogue.specs.Log.{Turn, asked}
+use Rattle.dialogue.specs.Dialogue.{Leads}
 use Rattle.dialogue.specs.Account.{kept, Last, no-events, content, no-signatures, no-extensions, no-comparisons, Account, ownCost, Reached, UsedUp, signatures, extensions, comparisons}
 use Rattle.dialogue.proofs.Runs.{asked-append, account}
 

@@ -1,7 +1,7 @@
 -- No means no: where the search refuses, and no budget is used up, every path that could be tried was tried in this very run and something was against
--- it; so no path is acceptable, for any function that agrees with the answers given. Assumes nothing.
+-- it; so no path is acceptable that no answer was against, also where the caller answered one question in two ways. Assumes nothing.
 use Prim.Native.Nat.{ℕ, suc, _≤_, _<_}
-use mathlib.Core.Path.{_≡_, refl, sym, _∙_, ap, subst}
+use mathlib.Core.Path.{_≡_, refl, _∙_, ap, subst}
 use mathlib.Core.Logic.{⊎-elim}
 use mathlib.Core.List.{List, _∷_, _++_, append-nil, List·Memᴰ, List·Memᴰ·head, List·Memᴰ·not-nil, List·Memᴰ·cases-cons, Memᴰ·append-left, Memᴰ·append-right}
 use native.Mathlib.Omega.{arith}
@@ -9,23 +9,23 @@ use lib.ListN.{length}
 use Rattle.refusal.specs.Refusals.{unknownIssuer}
 use Rattle.lent.specs.Lent.{mostIntermediates}
 use Rattle.candidate.specs.declared.Verdict.the-variants.{Anchor}
-use Rattle.dialogue.specs.Model.{Path, Stage, World, Event, try, refused, events, search}
-use Rattle.dialogue.specs.Dialogue.{Turn, Leads, Oracle, Veto, Agrees}
+use Rattle.dialogue.specs.Model.{staged, Path, Stage, World, Event, try, refused, events, search}
+use Rattle.dialogue.specs.Log.{What, Turn, answer, word, NotDeclined}
+use Rattle.dialogue.specs.Dialogue.{Leads}
 use Rattle.dialogue.specs.Account.{kept, First, Cleared, here, by-check, by-answer, Declined, at-check, at-answer, at-names, at-offer, Past, noted, extended, left, declined, Gone, nothing, more, Last, no-events, content, no-signatures, no-extensions, no-comparisons, Account, Exhausted}
-use Rattle.dialogue.specs.Acceptable.{InOrder, Grown, Acceptable, By, ByContent}
+use Rattle.dialogue.specs.Acceptable.{InOrder, Grown, Acceptable, Unopposed}
 use Rattle.dialogue.proofs.Runs.{account}
 use Rattle.dialogue.proofs.Events.{grown-tried}
-use Rattle.dialogue.proofs.Answers.{agrees-some}
 use Rattle.dialogue.proofs.Rank.{kept-first}
 
 module _ (W : World) where
   -- a path that was tried and is not accepted: what was against it, among the turns
-  pub record Against (turns : List Turn) (anchor : ℕ) (path : Path) : Type 0 where
-    pub some : List Turn
-    pub within : (t : Turn) → List·Memᴰ t some → List·Memᴰ t turns
-    pub refusal : ℕ
-    pub comparisons : ℕ
-    pub declined : Declined W anchor path some refusal comparisons
+  record Against (turns : List Turn) (anchor : ℕ) (path : Path) : Type 0 where
+    some : List Turn
+    within : (t : Turn) → List·Memᴰ t some → List·Memᴰ t turns
+    refusal : ℕ
+    comparisons : ℕ
+    declined : Declined W anchor path some refusal comparisons
 
   past-try : {ev : Event} {t : List Turn} {xs : List ℕ} {d m : ℕ} → Past W ev t xs d m → (k : ℕ) (p : Path) → try k p ≡ ev → Against t k p
   past-try (noted x) k p e = let z : _≡_ {A = ℕ} 0 1 = cc in absurd (omega arith)
@@ -45,23 +45,24 @@ module _ (W : World) where
       ⊎-elim (λ e. wider (λ w i. Memᴰ·append-left u i) (past-try p k q e))
       (λ i. wider (λ w j. Memᴰ·append-right t j) (gone-against g k q i)) (List·Memᴰ·cases-cons h)
 
-  module _ (o : Oracle) (v : Veto) where
-    cleared-by : {stages rest : List Stage} {turns : List Turn} → Cleared W stages turns rest → InOrder (By W o) stages → InOrder (By W o) rest
-    cleared-by here h = h
-    cleared-by (by-check c) h = cleared-by c (h .1)
-    cleared-by (by-answer key what a y c) h = cleared-by c (h .1)
+  still : (P : ℕ → What → Type 0) {stages rest : List Stage} {turns : List Turn} → Cleared W stages turns rest → InOrder P stages → InOrder P rest
+  still P here h = h
+  still P (by-check c) h = still P c (h .1)
+  still P (by-answer key what a y c) h = still P c (h .1)
 
-    pub not-declined : (turns : List Turn) (k : ℕ) (p : Path) (x m : ℕ) → Agrees o v turns → InOrder (By W o) (W .stages k p) → W .named k p ≡ 0 → v k p ≡ 0 → Declined W k p turns x m → ⊥
-    not-declined turns k p x m g y w z (at-check e rest c q r) = let f = cleared-by c y in omega (arith, f .0)
-    not-declined turns k p x m g y w z (at-answer e key what a rest first c l q r i) =
-        let f = cleared-by c y in
-        let n : W .reply key what (o key what) ≡ 0 = f .0 in
-        let same : o key what ≡ a = g .answers key what a (rw q (Memᴰ·append-right first (List·Memᴰ·head refl))) in
-        omega (arith, sym (ap (λ (u : ℕ). W .reply key what u) same))
-    not-declined turns k p x m g y w z (at-names e c q r i) = omega arith
-    not-declined turns k p x m g y w z (at-offer e first c l q r i) =
-        let same : v k p ≡ suc e = g .words k p (suc e) (rw q (Memᴰ·append-right first (List·Memᴰ·head refl))) in
-        omega arith
+  not-against : (turns : List Turn) (k : ℕ) (p : Path) → InOrder (Unopposed W turns) (staged W k p) → W .named k p ≡ 0 → NotDeclined turns k p → Against turns k p → ⊥
+  not-against turns k p y w z r = by (r .declined)
+    where
+      by : Declined W k p (r .some) (r .refusal) (r .comparisons) → ⊥
+      by (at-check e rest c q s) = let f = still (Unopposed W turns) c y in omega (arith, f .0)
+      by (at-answer e key what a rest first c l q s i) =
+          let f = still (Unopposed W turns) c y in
+          let n = f .0 a (r .within (answer key what a) (rw q (Memᴰ·append-right first (List·Memᴰ·head refl)))) in
+          omega (arith, n, l)
+      by (at-names e c q s i) = omega arith
+      by (at-offer e first c l q s i) =
+          let n = z (suc e) (r .within (word k p (suc e)) (rw q (Memᴰ·append-right first (List·Memᴰ·head refl)))) in
+          omega (arith, n)
 
   module _ (end s b n : ℕ) (turns : List Turn) (x : ℕ) (h : Leads (search W end s b n) turns (refused x)) where
     pub all-gone : Exhausted W end turns x
@@ -79,10 +80,8 @@ module _ (W : World) where
         by a (no-comparisons k p later e c q f r) = let z : _≡_ {A = ℕ} 0 1 = cc in absurd (omega arith)
 
     -- something was against every path that could be tried
-    pub every-path : (anchor : ℕ) (path : Path) → Grown W end path → length path ≤ suc mostIntermediates → anchor < W .candidates → W .verdict path anchor ≡ Anchor → Against turns anchor path
+    every-path : (anchor : ℕ) (path : Path) → Grown W end path → length path ≤ suc mostIntermediates → anchor < W .candidates → W .verdict path anchor ≡ Anchor → Against turns anchor path
     every-path anchor path g f l e = gone-against (all-gone .gone) anchor path (grown-tried W end g f anchor l e)
 
-    pub complete : (o : Oracle) (v : Veto) → Agrees o v turns → (anchor : ℕ) (path : Path) → Acceptable W end (By W o) (ByContent v) anchor path → ⊥
-    complete o v g anchor path a =
-        let r = every-path anchor path (a .grown) (a .few) (a .candidate) (a .anchored) in
-        not-declined o v (r .some) anchor path (r .refusal) (r .comparisons) (agrees-some (r .within) g) (a .signed) (a .named) (a .content) (r .declined)
+    pub complete : (anchor : ℕ) (path : Path) → Acceptable W end (Unopposed W turns) (NotDeclined turns) anchor path → ⊥
+    complete anchor path a = not-against turns anchor path (a .signed) (a .named) (a .content) (every-path anchor path (a .grown) (a .few) (a .candidate) (a .anchored))

@@ -5,7 +5,8 @@ use mathlib.Core.Logic.{_⊎_}
 use mathlib.Core.List.{List}
 use Rattle.refusal.specs.Refusals.{rankOf, unknownIssuer}
 use Rattle.dialogue.specs.Model.{World, Outcome, accepted, refused, spent, search}
-use Rattle.dialogue.specs.Dialogue.{Turn, Leads}
+use Rattle.dialogue.specs.Log.{Turn}
+use Rattle.dialogue.specs.Dialogue.{Leads}
 use Rattle.dialogue.specs.Decided.{Decided}
 use Rattle.dialogue.proofs.Rank.{start-or-ranked, not-fatal}
 use Rattle.dialogue.proofs.Sound.{sound, closing}

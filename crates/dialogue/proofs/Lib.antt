@@ -5,7 +5,10 @@ pub mod Rank
 pub mod Sound
 pub mod Complete
 pub mod Budgets
+pub mod Room
 pub mod Work
 pub mod Recursion
 pub mod Decided
 pub mod Examples
+pub mod Ends
+pub mod Questions

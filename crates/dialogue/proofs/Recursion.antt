@@ -10,7 +10,7 @@ use Rattle.refusal.proofs.Laws.{worse-assoc, worse-keeps}
 use Rattle.lent.specs.Lent.{mostIntermediates}
 use Rattle.candidate.specs.declared.Verdict.{Verdict}
 use Rattle.candidate.specs.declared.Verdict.the-variants.{Pass, Anchor, Extend}
-use Rattle.dialogue.specs.Model.{Path, Stage, question, finding, World, Event, try, leave, refused, spent, Tree, done, ask, offer, unless, through, conclude, run, one, each, node, enter, events, search}
+use Rattle.dialogue.specs.Model.{staged, Path, Stage, question, finding, World, Event, try, leave, refused, spent, Tree, done, ask, offer, unless, through, conclude, run, one, each, node, enter, events, search}
 use Rattle.dialogue.specs.Recursion.{Back, attempt, candidate, candidates, step, told}
 
 unless-same : (e : ℕ) {t u : Tree} {f g : ℕ → Tree} → t ≡ u → ((x : ℕ) → f x ≡ g x) → unless e t f ≡ unless e u g
@@ -42,7 +42,7 @@ module _ (W : World) where
   attempted : (k : ℕ) (path : Path) (es : List Event) (e : ℕ) (back : Back) → Behind es e back → (s b n : ℕ) → run W (try k path ∷ es) s b n e ≡ attempt W k path s b n back
   unfolding run attempt
   attempted k path es e back h s b n =
-      through-same (λ s′. conclude-same (λ x n′. h x s′ b n′) k path n) (λ x s′. h x s′ b n) (W .stages k path) s
+      through-same (λ s′. conclude-same (λ x n′. h x s′ b n′) k path n) (λ x s′. h x s′ b n) (staged W k path) s
 
   module _ (room : ℕ) (deeper : (path : Path) (es : List Event) (e : ℕ) (back : Back) → Behind es e back → (s b n : ℕ) → run W (enter W room path ++ es) s b n e ≡ step W room path s b n back) where
     of-one : (path : Path) (i : ℕ) (v : Verdict) (es : List Event) (e : ℕ) (back : Back) → Behind es e back → (s b n : ℕ) → run W (one (enter W room) path i v ++ es) s b n e ≡ candidate W (step W room) path i v s b n back

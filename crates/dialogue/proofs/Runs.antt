@@ -8,8 +8,9 @@ use lib.Dec.{ltb}
 use borrow.Author.Tests.{ltb-true, ltb-false}
 use Rattle.refusal.specs.Refusals.{maximumSignatureChecksExceeded, maximumNameConstraintComparisonsExceeded}
 use Rattle.refusal.specs.Model.{worseOf}
-use Rattle.dialogue.specs.Model.{Path, Stage, question, finding, World, Event, note, extension, try, leave, Outcome, accepted, spent, Tree, done, offer, unless, through, conclude, run}
-use Rattle.dialogue.specs.Dialogue.{Turn, answer, word, Leads, asked}
+use Rattle.dialogue.specs.Log.{What, Turn, answer, word, asked}
+use Rattle.dialogue.specs.Model.{staged, Path, Stage, question, finding, World, Event, note, extension, try, leave, Outcome, accepted, spent, Tree, done, offer, unless, through, conclude, run}
+use Rattle.dialogue.specs.Dialogue.{Leads}
 use Rattle.dialogue.specs.Account.{kept, Cleared, here, by-check, by-answer, Declined, at-check, at-answer, at-names, at-offer, Past, noted, extended, left, declined, nothing, more, Last, no-events, content, no-signatures, no-extensions, no-comparisons, Account}
 
 pub asked-append : (t u : List Turn) → asked (t ++ u) ≡ asked t + asked u
@@ -28,8 +29,8 @@ module _ (W : World) where
   data Ended (go : ℕ → Tree) (stop : ℕ → ℕ → Tree) (stages : List Stage) (s : ℕ) (turns : List Turn) (r : Outcome) : Type 0 where
     all-clear : (t u : List Turn) (s′ : ℕ) → Cleared W stages t [] → turns ≡ t ++ u → s ≡ asked t + s′ → Leads (go s′) u r → Ended go stop stages s turns r
     found : (e : ℕ) (rest : List Stage) (t u : List Turn) (s′ : ℕ) → Cleared W stages t (finding (suc e) ∷ rest) → turns ≡ t ++ u → s ≡ asked t + s′ → Leads (stop (suc e) s′) u r → Ended go stop stages s turns r
-    wrong : (e key what a : ℕ) (rest : List Stage) (t u : List Turn) (s′ : ℕ) → Cleared W stages t (question key what ∷ rest) → W .reply key what a ≡ suc e → turns ≡ t ++ (answer key what a ∷ u) → s ≡ suc (asked t + s′) → Leads (stop (suc e) s′) u r → Ended go stop stages s turns r
-    out-of : (key what : ℕ) (rest : List Stage) → Cleared W stages turns (question key what ∷ rest) → asked turns ≡ s → r ≡ spent maximumSignatureChecksExceeded → Ended go stop stages s turns r
+    wrong : (e key : ℕ) (what : What) (a : ℕ) (rest : List Stage) (t u : List Turn) (s′ : ℕ) → Cleared W stages t (question key what ∷ rest) → W .reply key what a ≡ suc e → turns ≡ t ++ (answer key what a ∷ u) → s ≡ suc (asked t + s′) → Leads (stop (suc e) s′) u r → Ended go stop stages s turns r
+    out-of : (key : ℕ) (what : What) (rest : List Stage) → Cleared W stages turns (question key what ∷ rest) → asked turns ≡ s → r ≡ spent maximumSignatureChecksExceeded → Ended go stop stages s turns r
 
   module _ (go : ℕ → Tree) (stop : ℕ → ℕ → Tree) where
     past-check : (stages : List Stage) (s : ℕ) (turns : List Turn) (r : Outcome) → Ended go stop stages s turns r → Ended go stop (finding 0 ∷ stages) s turns r
@@ -38,7 +39,7 @@ module _ (W : World) where
     past-check stages s turns r (wrong e k w a rest t u s′ c y l q h) = wrong e k w a rest t u s′ (by-check c) y l q h
     past-check stages s turns r (out-of k w rest c q h) = out-of k w rest (by-check c) q h
 
-    past-answer : (k w a : ℕ) (stages : List Stage) (s : ℕ) (turns all : List Turn) (r : Outcome) → W .reply k w a ≡ 0 → all ≡ answer k w a ∷ turns → Ended go stop stages s turns r → Ended go stop (question k w ∷ stages) (suc s) all r
+    past-answer : (k : ℕ) (w : What) (a : ℕ) (stages : List Stage) (s : ℕ) (turns all : List Turn) (r : Outcome) → W .reply k w a ≡ 0 → all ≡ answer k w a ∷ turns → Ended go stop stages s turns r → Ended go stop (question k w ∷ stages) (suc s) all r
     unfolding asked
     past-answer k w a stages s turns all r y g (all-clear t u s′ c l q h) =
         all-clear (answer k w a ∷ t) u s′ (by-answer k w a y c) (g ∙ ap (λ (z : List Turn). answer k w a ∷ z) l) (omega arith) h
@@ -67,7 +68,7 @@ module _ (W : World) where
     goes-on : (t u : List Turn) (x m s′ n′ : ℕ) → Declined W anchor path t x m → turns ≡ t ++ u → s ≡ asked t + s′ → n ≡ m + n′ → Leads (run W es s′ b n′ (worseOf e x)) u r → Tested anchor path es s b n e turns r
 
   module _ (k : ℕ) (p : Path) (es : List Event) (s b n e : ℕ) (turns : List Turn) (r : Outcome) where
-    concluded : (t u : List Turn) (s′ : ℕ) → Cleared W (W .stages k p) t [] → turns ≡ t ++ u → s ≡ asked t + s′ → Leads (conclude W (λ x n′. run W es s′ b n′ (worseOf e x)) k p n) u r → Tested k p es s b n e turns r
+    concluded : (t u : List Turn) (s′ : ℕ) → Cleared W (staged W k p) t [] → turns ≡ t ++ u → s ≡ asked t + s′ → Leads (conclude W (λ x n′. run W es s′ b n′ (worseOf e x)) k p n) u r → Tested k p es s b n e turns r
     unfolding conclude Leads asked
     concluded t u s′ c l q h = by (ltb n (W .cost k p)) refl (W .named k p) refl h
       where
@@ -93,9 +94,9 @@ module _ (W : World) where
 
     tested : Leads (run W (try k p ∷ es) s b n e) turns r → Tested k p es s b n e turns r
     unfolding run asked
-    tested h = by (ended (λ s′. conclude W (λ x n′. run W es s′ b n′ (worseOf e x)) k p n) (λ x s′. run W es s′ b n (worseOf e x)) (W .stages k p) s turns r h)
+    tested h = by (ended (λ s′. conclude W (λ x n′. run W es s′ b n′ (worseOf e x)) k p n) (λ x s′. run W es s′ b n (worseOf e x)) (staged W k p) s turns r h)
       where
-        by : Ended (λ s′. conclude W (λ x n′. run W es s′ b n′ (worseOf e x)) k p n) (λ x s′. run W es s′ b n (worseOf e x)) (W .stages k p) s turns r → Tested k p es s b n e turns r
+        by : Ended (λ s′. conclude W (λ x n′. run W es s′ b n′ (worseOf e x)) k p n) (λ x s′. run W es s′ b n (worseOf e x)) (staged W k p) s turns r → Tested k p es s b n e turns r
         by (all-clear t u s′ c l q i) = concluded t u s′ c l q i
         by (found x rest t u s′ c l q i) = goes-on t u (suc x) 0 s′ n (at-check x rest c refl refl) l q (omega arith) i
         by (wrong x j w a rest t u s′ c y l q i) =

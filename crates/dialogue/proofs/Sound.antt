@@ -1,31 +1,32 @@
 -- Yes means yes: an accepted path is acceptable, by answers that were given in this very run. Assumes nothing.
 use Prim.Native.Nat.{ℕ}
-use mathlib.Core.Path.{_≡_, refl, sym, _∙_, ap, subst}
+use mathlib.Core.Path.{_≡_, refl, _∙_, ap, subst}
 use mathlib.Core.List.{List, [], _∷_, _++_, List·Memᴰ, List·Memᴰ·head, List·Memᴰ·tail, Memᴰ·append-left, Memᴰ·append-right}
 use native.Mathlib.Omega.{arith}
 use Rattle.refusal.specs.Refusals.{unknownIssuer}
-use Rattle.dialogue.specs.Model.{Path, Stage, question, finding, World, Event, try, accepted, events, search}
-use Rattle.dialogue.specs.Dialogue.{Turn, answer, word, Leads, Oracle, Veto, Agrees}
+use Rattle.dialogue.specs.Log.{What, Turn, answer, word, SaidContent}
+use Rattle.dialogue.specs.Model.{staged, Path, Stage, question, finding, World, Event, try, accepted, events, search}
+use Rattle.dialogue.specs.Dialogue.{Leads}
 use Rattle.dialogue.specs.Account.{kept, Cleared, here, by-check, by-answer, Last, no-events, content, no-signatures, no-extensions, no-comparisons, Account, Closing}
-use Rattle.dialogue.specs.Acceptable.{InOrder, Acceptable, Given, GivenContent, By, ByContent}
+use Rattle.dialogue.specs.Acceptable.{InOrder, Acceptable, Given}
 use Rattle.dialogue.proofs.Runs.{account}
 use Rattle.dialogue.proofs.Events.{tried-grown}
 
 -- a weaker reading of the answers
-in-order : {Yes Also : ℕ → ℕ → Type 0} → ((key what : ℕ) → Yes key what → Also key what) → (stages : List Stage) → InOrder Yes stages → InOrder Also stages
+in-order : {Yes Also : ℕ → What → Type 0} → ((key : ℕ) (what : What) → Yes key what → Also key what) → (stages : List Stage) → InOrder Yes stages → InOrder Also stages
 in-order f [] h = tt
 in-order f (question key what ∷ stages) h = (f key what (h .0), in-order f stages (h .1))
 in-order f (finding e ∷ stages) h = (h .0, in-order f stages (h .1))
 
 -- and of the caller's word
-pub weaker : (W : World) (end : ℕ) {Yes Also : ℕ → ℕ → Type 0} {Content Too : ℕ → Path → Type 0} (anchor : ℕ) (path : Path) → ((key what : ℕ) → Yes key what → Also key what)
+pub weaker : (W : World) (end : ℕ) {Yes Also : ℕ → What → Type 0} {Content Too : ℕ → Path → Type 0} (anchor : ℕ) (path : Path) → ((key : ℕ) (what : What) → Yes key what → Also key what)
     → (Content anchor path → Too anchor path) → Acceptable W end Yes Content anchor path → Acceptable W end Also Too anchor path
 weaker W end anchor path f g a = record {
   grown = a .grown;
   few = a .few;
   candidate = a .candidate;
   anchored = a .anchored;
-  signed = in-order f (W .stages anchor path) (a .signed);
+  signed = in-order f (staged W anchor path) (a .signed);
   named = a .named;
   content = g (a .content);
 }
@@ -68,7 +69,7 @@ module _ (W : World) where
     pub closing : Leads (search W end s b n) turns (accepted anchor path) → Closing W turns anchor path
     closing h = won h .closing
 
-    pub sound : Leads (search W end s b n) turns (accepted anchor path) → Acceptable W end (Given W turns) (GivenContent turns) anchor path
+    pub sound : Leads (search W end s b n) turns (accepted anchor path) → Acceptable W end (Given W turns) (SaidContent turns) anchor path
     sound h =
         let a = won h in
         let c = a .closing in
@@ -82,10 +83,3 @@ module _ (W : World) where
           named = a .named;
           content = rw (c .talk) (Memᴰ·append-right (c .earlier) (Memᴰ·append-right (c .own) (List·Memᴰ·head refl)));
         }
-
-    -- the same for functions that agree with the answers given
-    pub sound-by : (o : Oracle) (v : Veto) → Agrees o v turns → Leads (search W end s b n) turns (accepted anchor path) → Acceptable W end (By W o) (ByContent v) anchor path
-    sound-by o v g h =
-        weaker W end anchor path
-        (λ key what y. subst (λ (x : ℕ). W .reply key what x ≡ 0) (sym (g .answers key what (y .0) (y .1))) (y .2))
-        (g .words anchor path 0) (sound h)

@@ -15,10 +15,11 @@ use Rattle.lent.specs.Lent.{mostIntermediates}
 use Rattle.candidate.specs.declared.Verdict.{Verdict}
 use Rattle.candidate.specs.declared.Verdict.the-variants.{Pass, Anchor, Extend}
 use Rattle.dialogue.specs.Model.{Path, World, Event, note, extension, try, leave, Outcome, one, each, node, enter, events, search}
-use Rattle.dialogue.specs.Dialogue.{Turn, Leads}
+use Rattle.dialogue.specs.Log.{Turn}
+use Rattle.dialogue.specs.Dialogue.{Leads}
 use Rattle.dialogue.specs.Work.{paid, Placed, at, eventOf, oneAt, eachAt, nodeAt, enterAt, placed, weight, aTry, pairs, kindOf, tryLookups, issuerLookups, lookups, anchorLooks, tryLooks, issuerLooks, looks, checkLooks, Sorted, longest, entered, levelLookups, levelLooks}
-use Rattle.dialogue.specs.Account.{noted, extended, left, declined, Gone, nothing, more}
 use Rattle.dialogue.proofs.Budgets.{accounted}
+use Rattle.dialogue.proofs.Room.{worth, gone-worth}
 
 -- ---- the events in their places are the events
 module _ (W : World) where
@@ -73,16 +74,9 @@ paid-placed (at q i leave ∷ ps) b = omega (arith, paid-placed ps b)
 paid-placed (at q i extension ∷ ps) zero = refl
 paid-placed (at q i extension ∷ ps) (suc b) = omega (arith, paid-placed ps b)
 
-unfoldable extensionsIn : List Event → ℕ
-extensionsIn [] = 0
-extensionsIn (note x ∷ es) = extensionsIn es
-extensionsIn (try k p ∷ es) = extensionsIn es
-extensionsIn (leave ∷ es) = extensionsIn es
-extensionsIn (extension ∷ es) = suc (extensionsIn es)
-
 -- the first k events, with no more extensions than are allowed, and the one after them
-first-paid : (w : Placed → ℕ) (ps : List Placed) (k b : ℕ) → extensionsIn (take k (map eventOf ps)) ≤ b → weight w (take (suc k) ps) ≤ paidAt w ps b
-unfolding weight paidAt extensionsIn eventOf
+first-paid : (w : Placed → ℕ) (ps : List Placed) (k b : ℕ) → worth (λ k p. 0) 1 (take k (map eventOf ps)) ≤ b → weight w (take (suc k) ps) ≤ paidAt w ps b
+unfolding weight paidAt worth eventOf
 first-paid w [] k b h = omega arith
 first-paid w (at q i (note x) ∷ ps) zero b h = omega arith
 first-paid w (at q i (try a p) ∷ ps) zero b h = omega arith
@@ -90,18 +84,10 @@ first-paid w (at q i leave ∷ ps) zero b h = omega arith
 first-paid w (at q i extension ∷ ps) zero zero h = omega arith
 first-paid w (at q i extension ∷ ps) zero (suc b) h = omega arith
 first-paid w (at q i (note x) ∷ ps) (suc k) b h = omega (arith, first-paid w ps k b h)
-first-paid w (at q i (try a p) ∷ ps) (suc k) b h = omega (arith, first-paid w ps k b h)
+first-paid w (at q i (try a p) ∷ ps) (suc k) b h = omega (arith, first-paid w ps k b (omega (arith, h)))
 first-paid w (at q i leave ∷ ps) (suc k) b h = omega (arith, first-paid w ps k b h)
 first-paid w (at q i extension ∷ ps) (suc k) zero h = absurd (omega (arith, h))
 first-paid w (at q i extension ∷ ps) (suc k) (suc b) h = omega (arith, first-paid w ps k b (omega (arith, h)))
-
-gone-extensions : (W : World) {es : List Event} {t : List Turn} {xs : List ℕ} {d n : ℕ} → Gone W es t xs d n → extensionsIn es ≡ d
-unfolding extensionsIn
-gone-extensions W nothing = refl
-gone-extensions W (more (noted x) g) = omega (arith, gone-extensions W g)
-gone-extensions W (more left g) = omega (arith, gone-extensions W g)
-gone-extensions W (more extended g) = omega (arith, gone-extensions W g)
-gone-extensions W (more (declined k p t x m e) g) = omega (arith, gone-extensions W g)
 
 -- ---- the bound, for any weight
 
@@ -286,8 +272,8 @@ module _ (W : World) (end s b n : ℕ) (turns : List Turn) (r : Outcome) (h : Le
       let a = accounted W end s b n turns r h in
       let gone : take (length (a .before)) (map eventOf (placed W end)) ≡ a .before =
       ap (λ (es : List Event). take (length (a .before)) es) (placed-events W end ∙ a .split) ∙ take-at (a .before) (a .after) (length (a .before)) refl in
-      let few : extensionsIn (take (length (a .before)) (map eventOf (placed W end))) ≤ b =
-      omega (arith, ap extensionsIn gone, gone-extensions W (a .gone), a .extensions-used) in
+      let few : worth (λ k p. 0) 1 (take (length (a .before)) (map eventOf (placed W end))) ≤ b =
+      omega (arith, ap (worth (λ k p. 0) 1) gone, gone-worth W (a .gone) .0, a .extensions-used) in
       omega (arith, first-paid w (placed W end) (length (a .before)) b few, events-within W w share m g end b)
 
   pub few-events : length (accounted W end s b n turns r h .before) + length (take 1 (accounted W end s b n turns r h .after)) ≤ suc (W .candidates) * suc b

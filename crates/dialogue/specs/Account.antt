@@ -4,8 +4,8 @@ use mathlib.Core.Path.{_≡_}
 use mathlib.Core.List.{List, [], _∷_, _++_, List·Memᴰ}
 use Rattle.refusal.specs.Refusals.{rankOf, unknownIssuer, maximumSignatureChecksExceeded, maximumPathBuildCallsExceeded, maximumNameConstraintComparisonsExceeded}
 use Rattle.refusal.specs.Model.{worseOf}
-use Rattle.dialogue.specs.Model.{Path, Stage, question, finding, World, Event, note, extension, try, leave, Outcome, accepted, refused, spent, events}
-use Rattle.dialogue.specs.Dialogue.{Turn, answer, word, asked}
+use Rattle.dialogue.specs.Log.{What, Turn, answer, word, asked}
+use Rattle.dialogue.specs.Model.{staged, Path, Stage, question, finding, World, Event, note, extension, try, leave, Outcome, accepted, refused, spent, events}
 
 -- the refusal that is kept of those noted one after the other
 unfoldable pub kept : ℕ → List ℕ → ℕ
@@ -25,18 +25,18 @@ module _ (W : World) where
   pub data Cleared : List Stage → List Turn → List Stage → Type 0 where
     here : {stages : List Stage} → Cleared stages [] stages
     by-check : {stages rest : List Stage} {turns : List Turn} → Cleared stages turns rest → Cleared (finding 0 ∷ stages) turns rest
-    by-answer : {stages rest : List Stage} {turns : List Turn} (key what a : ℕ) → W .reply key what a ≡ 0
+    by-answer : {stages rest : List Stage} {turns : List Turn} (key : ℕ) (what : What) (a : ℕ) → W .reply key what a ≡ 0
         → Cleared stages turns rest → Cleared (question key what ∷ stages) (answer key what a ∷ turns) rest
 
   -- the turns of a path that is refused at an anchor, the refusal, the comparisons made
   pub data Declined (anchor : ℕ) (path : Path) (turns : List Turn) (x made : ℕ) : Type 0 where
-    at-check : (e : ℕ) (rest : List Stage) → Cleared (W .stages anchor path) turns (finding (suc e) ∷ rest)
+    at-check : (e : ℕ) (rest : List Stage) → Cleared (staged W anchor path) turns (finding (suc e) ∷ rest)
         → x ≡ suc e → made ≡ 0 → Declined anchor path turns x made
-    at-answer : (e key what a : ℕ) (rest : List Stage) (first : List Turn) → Cleared (W .stages anchor path) first (question key what ∷ rest)
+    at-answer : (e key : ℕ) (what : What) (a : ℕ) (rest : List Stage) (first : List Turn) → Cleared (staged W anchor path) first (question key what ∷ rest)
         → W .reply key what a ≡ suc e → turns ≡ first ++ (answer key what a ∷ []) → x ≡ suc e → made ≡ 0 → Declined anchor path turns x made
-    at-names : (e : ℕ) → Cleared (W .stages anchor path) turns []
+    at-names : (e : ℕ) → Cleared (staged W anchor path) turns []
         → W .named anchor path ≡ suc e → x ≡ suc e → made ≡ W .cost anchor path → Declined anchor path turns x made
-    at-offer : (e : ℕ) (first : List Turn) → Cleared (W .stages anchor path) first []
+    at-offer : (e : ℕ) (first : List Turn) → Cleared (staged W anchor path) first []
         → W .named anchor path ≡ 0 → turns ≡ first ++ (word anchor path (suc e) ∷ []) → x ≡ suc e → made ≡ W .cost anchor path → Declined anchor path turns x made
 
   -- an event gone past: the turns, the refusals noted, the extensions, the comparisons
@@ -55,15 +55,15 @@ module _ (W : World) where
   pub data Last (es : List Event) (s b n e : ℕ) (turns : List Turn) (r : Outcome) : Type 0 where
     no-events : es ≡ [] → turns ≡ [] → r ≡ refused e → Last es s b n e turns r
     content : (anchor : ℕ) (path : Path) (later : List Event) (first : List Turn) → es ≡ try anchor path ∷ later
-        → Cleared (W .stages anchor path) first [] → W .named anchor path ≡ 0 → turns ≡ first ++ (word anchor path 0 ∷ [])
+        → Cleared (staged W anchor path) first [] → W .named anchor path ≡ 0 → turns ≡ first ++ (word anchor path 0 ∷ [])
         → asked turns ≤ s → W .cost anchor path ≤ n → r ≡ accepted anchor path → Last es s b n e turns r
-    no-signatures : (anchor : ℕ) (path : Path) (later : List Event) (key what : ℕ) (rest : List Stage) → es ≡ try anchor path ∷ later
-        → Cleared (W .stages anchor path) turns (question key what ∷ rest) → asked turns ≡ s
+    no-signatures : (anchor : ℕ) (path : Path) (later : List Event) (key : ℕ) (what : What) (rest : List Stage) → es ≡ try anchor path ∷ later
+        → Cleared (staged W anchor path) turns (question key what ∷ rest) → asked turns ≡ s
         → r ≡ spent maximumSignatureChecksExceeded → Last es s b n e turns r
     no-extensions : (later : List Event) → es ≡ extension ∷ later → turns ≡ [] → b ≡ 0
         → r ≡ spent maximumPathBuildCallsExceeded → Last es s b n e turns r
     no-comparisons : (anchor : ℕ) (path : Path) (later : List Event) → es ≡ try anchor path ∷ later
-        → Cleared (W .stages anchor path) turns [] → asked turns ≤ s → n < W .cost anchor path
+        → Cleared (staged W anchor path) turns [] → asked turns ≤ s → n < W .cost anchor path
         → r ≡ spent maximumNameConstraintComparisonsExceeded → Last es s b n e turns r
 
   -- a run through `es` with the budgets s, b, n and the refusal e so far
@@ -97,7 +97,7 @@ pub record Closing (W : World) (turns : List Turn) (anchor : ℕ) (path : Path) 
   pub earlier : List Turn
   pub own : List Turn
   pub talk : turns ≡ earlier ++ (own ++ (word anchor path 0 ∷ []))
-  pub cleared : Cleared W (W .stages anchor path) own []
+  pub cleared : Cleared W (staged W anchor path) own []
 
 -- the whole list of events was gone through, and x is what is kept
 pub record Exhausted (W : World) (end : ℕ) (turns : List Turn) (x : ℕ) : Type 0 where
@@ -117,10 +117,10 @@ pub record Reached (W : World) (end : ℕ) (at : Event) (turns : List Turn) (ext
 
 -- a budget is used up: its refusal, and that one more use was wanted where exactly as many as allowed had been made; of comparisons, that a path takes more than were left
 pub data UsedUp (W : World) (end s b n : ℕ) (turns : List Turn) (x : ℕ) : Type 0 where
-  signatures : (first last : List Turn) (d m anchor : ℕ) (path : Path) (key what : ℕ) (rest : List Stage) → x ≡ maximumSignatureChecksExceeded
-      → Reached W end (try anchor path) first d m → turns ≡ first ++ last → Cleared W (W .stages anchor path) last (question key what ∷ rest)
+  signatures : (first last : List Turn) (d m anchor : ℕ) (path : Path) (key : ℕ) (what : What) (rest : List Stage) → x ≡ maximumSignatureChecksExceeded
+      → Reached W end (try anchor path) first d m → turns ≡ first ++ last → Cleared W (staged W anchor path) last (question key what ∷ rest)
       → asked turns ≡ s → UsedUp W end s b n turns x
   extensions : (m : ℕ) → x ≡ maximumPathBuildCallsExceeded → Reached W end extension turns b m → UsedUp W end s b n turns x
   comparisons : (first last : List Turn) (d m anchor : ℕ) (path : Path) → x ≡ maximumNameConstraintComparisonsExceeded
-      → Reached W end (try anchor path) first d m → turns ≡ first ++ last → Cleared W (W .stages anchor path) last []
+      → Reached W end (try anchor path) first d m → turns ≡ first ++ last → Cleared W (staged W anchor path) last []
       → m ≤ n → n < m + W .cost anchor path → UsedUp W end s b n turns x

@@ -7,17 +7,17 @@ use mathlib.Core.List.{List}
 use lib.ListN.{length, take}
 use Rattle.refusal.specs.Refusals.{rankOf, isFatal, unknownIssuer}
 use Rattle.dialogue.specs.Model.{Path, World, Outcome, accepted, refused, spent, events}
-use Rattle.dialogue.specs.Dialogue.{Turn, asked, Oracle, Veto, Agrees}
+use Rattle.dialogue.specs.Log.{Turn, asked, SaidContent, NotDeclined}
 use Rattle.dialogue.specs.Account.{Account, ownCost, Closing, Exhausted, UsedUp}
 use Rattle.dialogue.specs.Work.{placed, weight, aTry, lookups as lookupsAt, looks as looksAt, checkLooks, entered, levelLookups, levelLooks, Sorted}
-use Rattle.dialogue.specs.Acceptable.{Acceptable, Given, GivenContent, By, ByContent}
+use Rattle.dialogue.specs.Acceptable.{Acceptable, Given, Unopposed}
 
 pub record Decided (W : World) (end s b n : ℕ) (turns : List Turn) (r : Outcome) : Type 0 where
   -- an accepted path is acceptable, by answers of this dialogue, the last of which were given for this very path
-  pub yes : (anchor : ℕ) (path : Path) → r ≡ accepted anchor path → Acceptable W end (Given W turns) (GivenContent turns) anchor path
+  pub yes : (anchor : ℕ) (path : Path) → r ≡ accepted anchor path → Acceptable W end (Given W turns) (SaidContent turns) anchor path
   pub closing : (anchor : ℕ) (path : Path) → r ≡ accepted anchor path → Closing W turns anchor path
-  -- after a refusal no path is, for any functions that agree with the answers given
-  pub no : (x : ℕ) → r ≡ refused x → (o : Oracle) (v : Veto) → Agrees o v turns → (anchor : ℕ) (path : Path) → Acceptable W end (By W o) (ByContent v) anchor path → ⊥
+  -- after a refusal no path is: some answer is against each, or the caller declined it
+  pub no : (x : ℕ) → r ≡ refused x → (anchor : ℕ) (path : Path) → Acceptable W end (Unopposed W turns) (NotDeclined turns) anchor path → ⊥
   -- it is the first of the highest rank among all that were noted, unknown issuer if none has a rank, and says of no budget that it is used up
   pub which : (x : ℕ) → r ≡ refused x → Exhausted W end turns x
   pub ranked : (x : ℕ) → r ≡ refused x → (x ≡ unknownIssuer) ⊎ (0 < rankOf x)

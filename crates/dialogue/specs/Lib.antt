@@ -1,7 +1,9 @@
+pub mod Log
 pub mod Model
 pub mod Dialogue
 pub mod Account
 pub mod Acceptable
 pub mod Recursion
+pub mod Room
 pub mod Work
 pub mod Decided

@@ -11,6 +11,7 @@ use Rattle.refusal.specs.Model.{worseOf}
 use Rattle.lent.specs.Lent.{mostIntermediates}
 use Rattle.candidate.specs.declared.Verdict.{Verdict}
 use Rattle.candidate.specs.declared.Verdict.the-variants.{Pass, Anchor, Extend}
+use Rattle.dialogue.specs.Log.{What, ofCertificate}
 
 abbrev pub Path : Type 0
 Path = List ℕ
@@ -20,7 +21,7 @@ Path = List ℕ
 -- what has to be in order for a path at an anchor, one after the other: a question (key, what it is to have signed), or the refusal, or none, of a
 -- check that asks nothing
 pub data Stage : Type 0 where
-  question : ℕ → ℕ → Stage
+  question : ℕ → What → Stage
   finding : ℕ → Stage
 
 pub record World : Type 0 where
@@ -30,18 +31,19 @@ pub record World : Type 0 where
   pub verdict : Path → ℕ → Verdict
   -- the checks of a path's newest certificate by itself: a refusal or none
   pub check : Path → ℕ
-  -- the stages of a path at an anchor
-  pub stages : ℕ → Path → List Stage
+  -- what has to be in order besides, of a certificate with this key above it and this path below it, once its question number k was answered: 0 is the
+  -- question about the certificate itself
+  pub after : ℕ → ℕ → Path → ℕ → List Stage
   -- what the answer to a question (key, what) comes to: a refusal or none
-  pub reply : ℕ → ℕ → ℕ → ℕ
+  pub reply : ℕ → What → ℕ → ℕ
   -- the comparisons that the name constraints of a path at an anchor take up to their first refusal, and that refusal or none
   pub cost : ℕ → Path → ℕ
   pub named : ℕ → Path → ℕ
 
--- the signatures of a path, from the anchor's key down: today's stages
-unfoldable pub signatures : ℕ → Path → List Stage
-signatures key [] = []
-signatures key (certificate ∷ path) = question key certificate ∷ signatures certificate path
+-- the stages of a path, from the anchor's key down
+unfoldable pub staged : World → ℕ → Path → List Stage
+staged W key [] = []
+staged W key (certificate ∷ path) = question key (ofCertificate certificate) ∷ (W .after key certificate path 0 ++ staged W certificate path)
 
 -- ---- the events, in the order of the search
 
@@ -87,7 +89,7 @@ pub data Outcome : Type 0 where
 -- an outcome; or a question, or a finished path for the caller to be content with (0) or not (a refusal), and what follows each answer
 pub data Tree : Type 0 where
   done : Outcome → Tree
-  ask : ℕ → ℕ → (ℕ → Tree) → Tree
+  ask : ℕ → What → (ℕ → Tree) → Tree
   offer : ℕ → Path → (ℕ → Tree) → Tree
 
 -- by whether a number is none or a refusal
@@ -124,7 +126,7 @@ run W (try anchor path ∷ es) s b n e =
     through W
     (λ s′. conclude W (λ x n′. run W es s′ b n′ (worseOf e x)) anchor path n)
     (λ x s′. run W es s′ b n (worseOf e x))
-    (W .stages anchor path) s
+    (staged W anchor path) s
 
 -- the search for a path to the certificate `end`
 unfoldable pub search : World → ℕ → ℕ → ℕ → ℕ → Tree

@@ -8,7 +8,7 @@ use Rattle.refusal.specs.Model.{worseOf}
 use Rattle.lent.specs.Lent.{mostIntermediates}
 use Rattle.candidate.specs.declared.Verdict.{Verdict}
 use Rattle.candidate.specs.declared.Verdict.the-variants.{Pass, Anchor, Extend}
-use Rattle.dialogue.specs.Model.{Path, World, refused, spent, Tree, done, unless, through, conclude}
+use Rattle.dialogue.specs.Model.{staged, Path, World, refused, spent, Tree, done, unless, through, conclude}
 
 abbrev pub Back : Type 0
 Back = ℕ → ℕ → ℕ → ℕ → Tree
@@ -16,7 +16,7 @@ Back = ℕ → ℕ → ℕ → ℕ → Tree
 -- an anchor at a path: the stages, the name constraints, the offer
 unfoldable pub attempt : World → ℕ → Path → ℕ → ℕ → ℕ → Back → Tree
 attempt W anchor path s b n back =
-    through W (λ s′. conclude W (λ x n′. back x s′ b n′) anchor path n) (λ x s′. back x s′ b n) (W .stages anchor path) s
+    through W (λ s′. conclude W (λ x n′. back x s′ b n′) anchor path n) (λ x s′. back x s′ b n) (staged W anchor path) s
 
 -- one candidate; `deeper` is the step at an extended path
 unfoldable pub candidate : World → (Path → ℕ → ℕ → ℕ → Back → Tree) → Path → ℕ → Verdict → ℕ → ℕ → ℕ → Back → Tree

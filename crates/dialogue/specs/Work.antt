@@ -90,8 +90,9 @@ lookups anchors candidates (at path i leave) = 0
 lookups anchors candidates (at path i (try k p)) = tryLookups (length path)
 
 -- how many bytes are looked at in the same way, in lengths of the longest slice of bytes that is lent; a comparison of two parts looks at the bytes of both
--- at most. An anchor: two names, and the distrusted keys against its own. One that is tried: its flag and, where there are name constraints, the headers of the
--- d pairs of lists besides, and the names of the certificates below each (1 + .. + d). An intermediate: two names, and subject and key against those of each certificate of the path.
+-- at most. An anchor: its flag and two names, which are shorter than a certificate, and the distrusted keys against its own. One that is tried: its flag again
+-- and, where there are name constraints, the headers of the d pairs of lists besides, and the names of the certificates below each (1 + .. + d). An intermediate:
+-- two names, and subject and key against those of each certificate of the path.
 -- What a comparison of a name with an entry looks at, and a question, is not in it
 unfoldable pub anchorLooks : ℕ → ℕ
 anchorLooks distrusted = 2 + 2 * distrusted

@@ -2,3 +2,4 @@ pub mod Laws
 pub mod Texts
 pub mod Subtree
 pub mod Match
+pub mod Differences

@@ -1,4 +1,4 @@
--- The one place where a comparison is stricter than RFC 5280, 4.2.1.10, asks: an excluded entry that begins with a dot, `.l.x`, is met by the presented
+-- The one place where a comparison with a name is more than RFC 5280, 4.2.1.10, asks (stricter, D18): an excluded entry that begins with a dot, `.l.x`, is met by the presented
 -- `*.x`, though none of the names that this stands for is below `l.x`.
 use mathlib.Core.Path.{_≡_}
 use mathlib.Core.List.{List, [], _∷_}

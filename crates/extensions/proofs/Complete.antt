@@ -8,10 +8,10 @@ use native.Mathlib.Omega.{arith}
 use Rattle.refusal.specs.Refusals.{badDer, trailingExtension, trailingCertificateExtensions}
 use Rattle.der.specs.declared.Span.{Span}
 use Rattle.der.specs.declared.Got.the-variants.{Content}
-use Rattle.der.specs.Places.{part}
+use Rattle.der.specs.Places.{part, LIMIT}
 use Rattle.der.specs.X690.{encoding}
-use Rattle.der.specs.Model.{LIMIT, expectAt}
-use Rattle.parts.specs.Model.{sameList}
+use Rattle.der.specs.Model.{expectAt}
+use Rattle.parts.specs.Lists.{sameList}
 use Rattle.parts.proofs.Equal.{same-refl}
 use Rattle.der.proofs.Parts.{part-length}
 use Rattle.der.proofs.Loop.{Going, turn, finish, start}
@@ -21,7 +21,8 @@ use Rattle.extensions.specs.declared.Kept.the-variants.{All}
 use Rattle.extensions.specs.declared.Extension.{Extension as Read}
 use Rattle.extensions.specs.declared.Parsed.the-variants.{Is}
 use Rattle.extensions.specs.Model.{Next, extensionIn, contentOf, slotOf, setSlot, remembered, taken, goOn, allKept, noneKnown, gathered, extensionsAt}
-use Rattle.extensions.specs.Rfc5280.{Extension, Taken, usage, known, other, Each, more, KnownNumber, keyUsage, idCe, isNumber, isCritical, occurs, sequence, objectIdentifier, octetString, criticality, extensionContent, extension, extensionList, Extensions, missing, present, listed, explicit, extensions}
+use Rattle.extensions.specs.Accepted.{Taken, usage, known, other, Each, more, KnownNumber, keyUsage, occurs}
+use Rattle.extensions.specs.Rfc5280.{Extension, idCe, isNumber, isCritical, sequence, objectIdentifier, octetString, criticality, extensionContent, extension, extensionList, Extensions, missing, present, listed, explicit, extensions}
 use Rattle.extensions.specs.Layout.{placeOf, valueOf, keptOf, there, slotFor, slots, knownAt}
 use Rattle.extensions.proofs.Cases.{extension-case, remembered-case, passed-case, usage-case, content-case, taken-case, extensions-case}
 use Rattle.extensions.proofs.Steps.{go-next}
@@ -106,7 +107,7 @@ unfolding isNumber
 never-is n x e = e
 
 -- an extension that has number n, and a slot that is still free
-number-is : (n : ℕ) (x : Extension) → x .identifier ≡ idCe n → isNumber n x ≡ true
+pub number-is : (n : ℕ) (x : Extension) → x .identifier ≡ idCe n → isNumber n x ≡ true
 unfolding isNumber
 number-is n x e = rw e (same-refl (idCe n))
 

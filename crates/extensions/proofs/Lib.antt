@@ -8,4 +8,6 @@ pub mod Slots
 pub mod Sound
 pub mod Complete
 pub mod Unique
+pub mod Meaning
+pub mod Conforming
 pub mod Refusals

@@ -9,13 +9,14 @@ use lib.Dec.{ltb, eqb}
 use native.Mathlib.Omega.{arith}
 use borrow.Author.Tests.{ltb-false, eqb-true, eqb-false}
 use Rattle.der.specs.Places.{part}
-use Rattle.parts.specs.Model.{sameList}
+use Rattle.parts.specs.Lists.{sameList}
 use Rattle.der.proofs.Laws.{tests}
 use Rattle.der.proofs.Invert.{peel, either}
 use Rattle.parts.proofs.Equal.{same-true, same-refl}
 use Rattle.der.proofs.Parts.{part-length, part-cons, part-none}
 use Rattle.extensions.specs.Model.{knownKind, kindOf}
-use Rattle.extensions.specs.Rfc5280.{KnownNumber, keyUsage, subjectAltName, basicConstraints, nameConstraints, cRLDistributionPoints, extKeyUsage, idCe}
+use Rattle.extensions.specs.Accepted.{KnownNumber, keyUsage, subjectAltName, basicConstraints, nameConstraints, cRLDistributionPoints, extKeyUsage}
+use Rattle.extensions.specs.Rfc5280.{idCe}
 use Rattle.extensions.proofs.Inversion.{chosen}
 use Rattle.extensions.proofs.Small.{part-first}
 

@@ -12,11 +12,12 @@ use Rattle.der.specs.declared.Span.{Span}
 use Rattle.der.specs.X690.{bigEndian, lengthBytes, encoding}
 use Rattle.der.proofs.Laws.{lt-or-le}
 use Rattle.der.proofs.Complete.{bytes-short, bytes-long, big-length}
-use Rattle.parts.specs.Model.{sameList}
+use Rattle.parts.specs.Lists.{sameList}
 use Rattle.extensions.specs.declared.Slot.{Slot}
 use Rattle.extensions.specs.declared.Known.{Known}
 use Rattle.extensions.specs.Model.{put, setSlot, slotOf, noneKnown}
-use Rattle.extensions.specs.Rfc5280.{Extension, extension, isNumber, occurs, idCe, KnownNumber, keyUsage, subjectAltName, basicConstraints, nameConstraints, cRLDistributionPoints, extKeyUsage}
+use Rattle.extensions.specs.Accepted.{occurs, KnownNumber, keyUsage, subjectAltName, basicConstraints, nameConstraints, cRLDistributionPoints, extKeyUsage}
+use Rattle.extensions.specs.Rfc5280.{Extension, extension, isNumber, idCe}
 use Rattle.extensions.proofs.Numbers.{numbers}
 use Rattle.extensions.specs.Layout.{placeOf, absent, there, header, valueOf, keptOf, slotFor, slots}
 

@@ -12,7 +12,7 @@ use Rattle.der.specs.declared.Got.the-variants.{Content}
 use Rattle.der.specs.Places.{Bytes, part}
 use Rattle.der.specs.X690.{encoding}
 use Rattle.der.specs.Model.{expectAt}
-use Rattle.parts.specs.Model.{sameList}
+use Rattle.parts.specs.Lists.{sameList}
 use Rattle.der.proofs.Laws.{lt-or-le}
 use Rattle.parts.proofs.Equal.{same-true}
 use Rattle.der.proofs.Parts.{part-length, part-split, part-none}
@@ -22,7 +22,8 @@ use Rattle.extensions.specs.declared.Kept.{Kept}
 use Rattle.extensions.specs.declared.Kept.the-variants.{All, Refused as NotKept}
 use Rattle.extensions.specs.declared.Extension.{Extension as Read}
 use Rattle.extensions.specs.Model.{Move, Next, Stop, taken, goOn, allKept, slotOf, noneKnown, gathered, extensionsAt}
-use Rattle.extensions.specs.Rfc5280.{Criticality, Extension, Taken, usage, known, other, Each, none, more, KnownNumber, idCe, isNumber, isCritical, occurs, sequence, objectIdentifier, octetString, criticality, extensionContent, extension, extensionList, Extensions, missing, present, listed, explicit, extensions}
+use Rattle.extensions.specs.Accepted.{Taken, usage, known, other, Each, none, more, KnownNumber, occurs}
+use Rattle.extensions.specs.Rfc5280.{Criticality, Extension, idCe, isNumber, isCritical, sequence, objectIdentifier, octetString, criticality, extensionContent, extension, extensionList, Extensions, missing, present, listed, explicit, extensions}
 use Rattle.extensions.specs.Layout.{placeOf, valueOf, keptOf, there, slotFor, slots, knownAt}
 use Rattle.extensions.proofs.Inversion.{ExtensionAt, taken-inv, Passed, Filled, remembered-inv, content-inv, not-kept, ListAt, extensions-inv}
 use Rattle.extensions.proofs.Steps.{go-next, go-stop}

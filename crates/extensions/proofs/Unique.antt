@@ -9,12 +9,12 @@ use native.Mathlib.Omega.{arith}
 use Rattle.refusal.specs.Refusals.{badDer}
 use Rattle.der.specs.declared.Span.{Span}
 use Rattle.der.specs.declared.Got.the-variants.{Content}
-use Rattle.der.specs.Places.{part}
+use Rattle.der.specs.Places.{part, LIMIT}
 use Rattle.der.specs.X690.{encoding, truth}
-use Rattle.der.specs.Model.{LIMIT}
 use Rattle.extensions.specs.Rfc5280.{Criticality, unwritten, written, Extension, Extensions, missing, present, octetString, objectIdentifier, sequence, explicit, boolean, criticality, extensionContent, extension, extensionList, extensions}
 use Rattle.extensions.specs.Layout.{placeOf}
-use Rattle.extensions.proofs.Value.{part-whole, encoded-length, Found, find}
+use Rattle.der.proofs.Parts.{part-whole}
+use Rattle.extensions.proofs.Value.{encoded-length, Found, find}
 
 -- ---- one value before others: its content and what comes after it are determined
 found-once : (s : List ℕ) (tag : ℕ) (x x′ rest rest′ : List ℕ) → Found s 0 (length s) tag x rest → Found s 0 (length s) tag x′ rest′ → (x ≡ x′) × (rest ≡ rest′)
@@ -74,16 +74,16 @@ critical-once (written b) (written b′) v v′ h e =
     let r = once-in 1 _ _ (encoding 4 v) (encoding 4 v′) refl h e in
     (ap written (truth-once b b′ (r .0)), last-in 4 v v′ refl (r .3) (r .1) .0)
 
+pub same-extension : {i i′ v v′ : List ℕ} {c c′ : Criticality} → i ≡ i′ → c ≡ c′ → v ≡ v′
+    → _≡_ {A = Extension} (record { identifier = i; critical = c; value = v }) (record { identifier = i′; critical = c′; value = v′ })
+same-extension p q r = rw (p, q, r)
+
 extension-once : (x x′ : Extension) → length (extensionContent x) < LIMIT → extensionContent x ≡ extensionContent x′ → x ≡ x′
 unfolding extensionContent objectIdentifier
 extension-once x x′ h e =
     let r = once-in 6 (x .identifier) (x′ .identifier) _ _ refl h e in
     let c = critical-once (x .critical) (x′ .critical) (x .value) (x′ .value) (r .3) (r .1) in
-    same-extension (x .identifier) (x′ .identifier) (x .critical) (x′ .critical) (x .value) (x′ .value) (r .0) (c .0) (c .1)
-  where
-    same-extension : (i i′ : List ℕ) (c c′ : Criticality) (v v′ : List ℕ) → i ≡ i′ → c ≡ c′ → v ≡ v′
-        → _≡_ {A = Extension} (record { identifier = i; critical = c; value = v }) (record { identifier = i′; critical = c′; value = v′ })
-    same-extension i i′ c c′ v v′ p q r = rw (p, q, r)
+    same-extension (r .0) (c .0) (c .1)
 
 list-once : (xs xs′ : List Extension) → length (extensionList xs) < LIMIT → extensionList xs ≡ extensionList xs′ → xs ≡ xs′
 unfolding extensionList extension sequence

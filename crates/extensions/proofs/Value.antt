@@ -5,22 +5,17 @@ use mathlib.Core.List.{List, [], _++_, append-nil}
 use mathlib.Core.Bool.{false}
 use lib.ListN.{length, length-append}
 use lib.Dec.{eqb}
-use lib.Seq.{take-all}
 use native.Mathlib.Omega.{arith}
 use Rattle.der.specs.declared.Span.{Span}
 use Rattle.der.specs.declared.Got.the-variants.{Content}
-use Rattle.der.specs.Places.{Bytes, part}
+use Rattle.der.specs.Places.{Bytes, part, LIMIT}
 use Rattle.der.specs.X690.{lengthBytes, encoding}
-use Rattle.der.specs.Model.{LIMIT, highTag, expectAt}
+use Rattle.der.specs.Model.{highTag, expectAt}
 use Rattle.der.proofs.Laws.{value-expect}
 use Rattle.der.proofs.Parts.{part-length, part-split, part-front}
 use Rattle.der.proofs.Laid.{expect-laid, laid-read}
 use Rattle.extensions.specs.Model.{span}
 use Rattle.extensions.specs.Layout.{placeOf}
-
-pub part-whole : (s : List ℕ) → part s 0 (length s) ≡ s
-unfolding part
-part-whole s = take-all (length s - 0) s (omega arith)
 
 -- ---- where a content lies
 pub encoded-length : (tag : ℕ) (x : List ℕ) → length (encoding tag x) ≡ 1 + length (lengthBytes (length x)) + length x

@@ -1,11 +1,10 @@
 -- RFC 5280: a certificate's extensions and their encoding. Their values are contents of which nothing more is said. No reader is named
 -- here.
 use Prim.Native.Nat.{ℕ, _+_}
-use mathlib.Core.Path.{_≡_}
 use mathlib.Core.List.{List, [], _∷_, _++_}
-use mathlib.Core.Bool.{Bool, true, false, cond}
+use mathlib.Core.Bool.{Bool, false}
 use Rattle.der.specs.X690.{encoding, truth}
-use Rattle.parts.specs.Model.{sameList}
+use Rattle.parts.specs.Lists.{sameList}
 
 -- ---- X.680, 8.4: the universal tags; X.690, 8.9.1 and 8.14.2: a SEQUENCE and an explicit [n] are constructed
 unfoldable pub octetString : List ℕ → List ℕ
@@ -66,37 +65,12 @@ unfoldable pub extensions : Extensions → List ℕ
 extensions missing = []
 extensions (present xs) = explicit 3 (sequence (extensionList xs))
 
--- ---- 4.2.1: the extensions that are known here, by the last number of id-ce n
-pub data KnownNumber : ℕ → Type 0 where
-  keyUsage : KnownNumber 15
-  subjectAltName : KnownNumber 17
-  basicConstraints : KnownNumber 19
-  nameConstraints : KnownNumber 30
-  cRLDistributionPoints : KnownNumber 31
-  extKeyUsage : KnownNumber 37
-
 -- id-ce ::= { joint-iso-ccitt(2) ds(5) 29 }, encoded as X.690, 8.19 has it
 abbrev pub idCe : ℕ → List ℕ
 idCe n = 85 ∷ 29 ∷ n ∷ []
 
 unfoldable pub isNumber : ℕ → Extension → Bool
 isNumber n x = sameList (x .identifier) (idCe n)
-
--- how often extension n is in a list
-unfoldable pub occurs : ℕ → List Extension → ℕ
-occurs n [] = 0
-occurs n (x ∷ xs) = cond (isNumber n x) 1 0 + occurs n xs
-
--- an extension that a reader takes. The value of a known one is a SEQUENCE and nothing else; that of key usage, a BIT STRING, is
--- not looked at. 4.2: one that is not known and critical is refused by a strict reader
-pub data Taken (strict : Bool) (x : Extension) : Type 0 where
-  usage : x .identifier ≡ idCe 15 → Taken strict x
-  known : (n : ℕ) → KnownNumber n → (n ≡ 15 → ⊥) → x .identifier ≡ idCe n → (content : List ℕ) → x .value ≡ sequence content → Taken strict x
-  other : ((n : ℕ) → KnownNumber n → isNumber n x ≡ false) → (strict ≡ true → isCritical (x .critical) ≡ true → ⊥) → Taken strict x
-
-pub data Each (strict : Bool) : List Extension → Type 0 where
-  none : Each strict []
-  more : {x : Extension} {xs : List Extension} → Taken strict x → Each strict xs → Each strict (x ∷ xs)
 
 unfoldable pub listed : Extensions → List Extension
 listed missing = []

@@ -1,5 +1,5 @@
 -- Steps, the states they hold, and the dialogue: a state is shown as it is, and an answer goes on from it. Assumes nothing.
-use Prim.Native.Nat.{ℕ, zero, suc, _+_, _<_}
+use Prim.Native.Nat.{ℕ, zero, suc, _+_, _≤_, _<_}
 use mathlib.Core.Path.{_≡_, refl, sym, _∙_, ap, subst}
 use mathlib.Core.Bool.{Bool, true, false, cond}
 use mathlib.Core.List.{List, [], _∷_, map}
@@ -25,18 +25,17 @@ use Rattle.machine.specs.declared.Numbers.{Numbers}
 use Rattle.machine.specs.declared.State.{State}
 use Rattle.machine.specs.declared.Phase.{Phase}
 use Rattle.machine.specs.declared.Phase.the-variants.{Walk, Ask, Offer, Found, Refused, Spent}
-use Rattle.machine.specs.Machine.{phaseTree, treeOf, keyAt, whatAt, Answered, Started}
+use Rattle.machine.specs.Machine.{phaseTree, treeOf, phaseEffort, effort, keyAt, certAt, whatAt, begin, Answered, Came}
 use Rattle.machine.specs.World.{worldOf, worldIn}
 use Rattle.machine.proofs.Lent.{world-held}
-use Rattle.machine.proofs.Whole.{ran-bound}
-use Rattle.conditions.specs.Request.{Request, Budgets}
-use Rattle.conditions.specs.Model.{nameOf, named, closed, worldFor, endOf, searchOf, decision}
-use Rattle.runs.specs.Runs.{Came}
+use Rattle.machine.proofs.Whole.{ran-bound, few-moves}
+use Rattle.conditions.specs.Request.{Request, Budgets, endOf}
+use Rattle.conditions.specs.Model.{nameOf, named, closed, worldFor, searchOf, decision}
 use Rattle.told.specs.declared.Asked.{Asked}
 use Rattle.wanted.specs.Model.{nameBy}
 use Rattle.steps.specs.declared.Step.{Step}
 use Rattle.steps.specs.Model.{phaseOf, numberOf, refusalOf, stateOf, stepOf, isFound, shownAs, endedStep}
-use Rattle.judge.specs.Steps.{treeFrom, At, unread, ran, Run}
+use Rattle.judge.specs.Steps.{treeFrom, At, ran, unread, read, movesLeft, Run, Answered as AnsweredStep}
 use Rattle.told.specs.Model.{askedOf}
 
 -- ---- a table that is held
@@ -56,9 +55,6 @@ module _ (T I : List (List ℕ)) (E : List ℕ) (h : Held T I E) where
   on-bytes P S K C B D t w m n q p = subst P (world-held T I E S K C B D t w m n q h) p
 
   module _ (S K C : List (List ℕ)) (B : List ℕ) (D : List (List ℕ)) (t : ℕ) (w : List ℕ) (m : Bool) (n : ℕ) (q : n ≡ length S) where
-    pub started-held : (k sg ex cm : ℕ) (s : State) → Started (worldIn (readingsIn T I E n) I E S K C B D t w m) k sg ex cm s → Started (worldOf I E S K C B D t w m) k sg ex cm s
-    started-held k sg ex cm s = on-bytes (λ W. Started W k sg ex cm s) S K C B D t w m n q
-
     pub came-held : (k sg ex cm : ℕ) (said : List ℕ) (s : State) → Came (worldIn (readingsIn T I E n) I E S K C B D t w m) k sg ex cm said s → Came (worldOf I E S K C B D t w m) k sg ex cm said s
     came-held k sg ex cm said s = on-bytes (λ W. Came W k sg ex cm said s) S K C B D t w m n q
 
@@ -93,10 +89,10 @@ follow-done r (a ∷ said) = follow-done r said
 
 -- ---- a step holds a state
 abbrev inPhase : State → Phase → State
-inPhase s p = record { path = s .path; next = s .next; depth = s .depth; at = s .at; anchor = s .anchor; signatures = s .signatures; extensions = s .extensions; comparisons = s .comparisons; best = s .best; phase = p }
+inPhase s p = record { path = s .path; next = s .next; depth = s .depth; at = s .at; list = s .list; anchor = s .anchor; signatures = s .signatures; extensions = s .extensions; comparisons = s .comparisons; best = s .best; phase = p }
 
 abbrev held : State → Bool → Phase → State
-held s long p = record { path = s .path; next = s .next; depth = cond long 0 (s .depth); at = s .at; anchor = s .anchor; signatures = s .signatures; extensions = s .extensions; comparisons = s .comparisons; best = s .best; phase = cond long (Refused maximumPathDepthExceeded) p }
+held s long p = record { path = s .path; next = s .next; depth = cond long 0 (s .depth); at = s .at; list = s .list; anchor = s .anchor; signatures = s .signatures; extensions = s .extensions; comparisons = s .comparisons; best = s .best; phase = cond long (Refused maximumPathDepthExceeded) p }
 
 state-of-step : (s : State) (n e : ℕ) → s .depth < 7 → stateOf (stepOf s n e) ≡ inPhase s (phaseOf n e)
 unfolding stateOf
@@ -130,6 +126,9 @@ module _ (R : Request) where
   unfolding treeFrom
   stands s r h = ap (λ (u : State). closed naming (treeOf (worldFor R) u)) h
 
+  no-more : {u s : State} → u ≡ s → effort (worldFor R) u ≤ effort (worldFor R) s
+  no-more h = omega (arith, ap (λ (u : State). effort (worldFor R) u) h)
+
   -- what a state is shown as, by its phase
   by-phase : (s : State) (p : Phase) (e : ℕ) → naming ≡ e → s .depth < 7 → s .phase ≡ p → (p ≡ Walk → ⊥) → At R (closed e (phaseTree (worldFor R) s p)) (shownAs e s p)
   unfolding shownAs isFound phaseTree closed named phaseOf numberOf refusalOf treeFrom
@@ -156,29 +155,37 @@ module _ (R : Request) where
   pub shown-at : (s : State) → s .depth < 7 → (s .phase ≡ Walk → ⊥) → At R (closed naming (treeOf (worldFor R) s)) (shownAs naming s (s .phase))
   shown-at s l w = by-phase s (s .phase) naming refl l refl w
 
-  -- ---- an answer, the start, and an end entity that cannot be read
-  pub answer-at : (t r : Step) (u s : State) (a : ℕ) → u ≡ stateOf t → r ≡ shownAs naming s (s .phase)
-      → Answered (worldFor R) u a s → At R (give (treeFrom R t) a) r
+  -- no more moves can follow a step than the state that it shows
+  shown-left : (s : State) (p : Phase) (e : ℕ) → s .depth < 7 → s .phase ≡ p → (p ≡ Walk → ⊥) → movesLeft R (shownAs e s p) ≤ effort (worldFor R) s
+  unfolding shownAs isFound phaseEffort phaseOf numberOf refusalOf
+  shown-left s Walk e l h w = absurd (w refl)
+  shown-left s Ask e l h w = no-more (plain s Ask l h refl)
+  shown-left s Offer e l h w = no-more (plain s Offer l h refl)
+  shown-left s Found zero l h w = no-more (plain s Found l h refl)
+  shown-left s Found (suc e) l h w = rw (ne-eqb (suc e) 0 (λ q. omega (arith, q)), state-of-step s 4 (suc e) l) (omega arith)
+  shown-left s (Refused x) e l h w = no-more (plain s (Refused x) l h refl)
+  shown-left s (Spent x) e l h w = no-more (plain s (Spent x) l h refl)
+
+  -- ---- an answer, and an end entity that cannot be read
+  pub answer-at : (t r : Step) (s : State) (a : ℕ) → r ≡ shownAs naming s (s .phase) → Answered (worldFor R) (stateOf t) a s → AnsweredStep R t a r
   unfolding treeFrom follow
-  answer-at t r u s a q e h =
-      let f : (u .depth < 7) × (u .phase ≡ Walk → ⊥) = subst (λ (v : State). (v .depth < 7) × (v .phase ≡ Walk → ⊥)) (sym q) (fair t) in
+  answer-at t r s a e h =
+      let f = fair t in
       let g = h (f .0) (f .1) in
-      subst (λ (v : Tree). At R v r) (ap (closed naming) (g .same) ∙ closed-give naming (treeOf (worldFor R) u) a ∙ ap (λ (v : State). give (closed naming (treeOf (worldFor R) v)) a) q)
-      (subst (λ (w : Step). At R (closed naming (treeOf (worldFor R) s)) w) (sym e) (shown-at s (g .deep) (g .halts)))
+      let k = g .ran (stateOf t) [] 0 begin in
+      subst (λ (w : Step). AnsweredStep R t a w) (sym e) record {
+        at = subst (λ (v : Tree). At R v (shownAs naming s (s .phase))) (ap (closed naming) (g .same) ∙ closed-give naming (treeOf (worldFor R) (stateOf t)) a) (shown-at s (g .deep) (g .halts));
+        moves = k .0;
+        made = ran (k .1);
+        few = omega (arith, ran-bound (worldFor R) (k .1), shown-left s (s .phase) naming (g .deep) refl (g .halts));
+      }
 
   module _ (B : Budgets) where
     read-decision : (c : Certificate) → readCertificate (R .end) true ≡ Accepted c → closed naming (searchOf R B) ≡ decision R B
     unfolding decision onReading
     read-decision c e = sym (rw e)
 
-    pub begin-at : (c : Certificate) → readCertificate (R .end) true ≡ Accepted c → (s : State) (r : Step) → r ≡ shownAs naming s (s .phase)
-        → (n : ℕ) → n ≡ endOf R → Started (worldFor R) n (B .signatures) (B .extensions) (B .comparisons) s → At R (decision R B) r
-    begin-at c q s r e n m k =
-        let h : Started (worldFor R) (endOf R) (B .signatures) (B .extensions) (B .comparisons) s = subst (λ (j : ℕ). Started (worldFor R) j (B .signatures) (B .extensions) (B .comparisons) s) m k in
-        subst (λ (u : Tree). At R u r) (ap (closed naming) (h .same) ∙ read-decision c q)
-        (subst (λ (q : Step). At R (closed naming (treeOf (worldFor R) s)) q) (sym e) (shown-at s (h .deep) (h .halts)))
-
-    pub unread-at : (e : ℕ) → readCertificate (R .end) true ≡ NoCertificate e → (r : Step) (a b c : ℕ) → r ≡ endedStep e a b c → At R (decision R B) r
+    unread-at : (e : ℕ) → readCertificate (R .end) true ≡ NoCertificate e → (r : Step) (a b c : ℕ) → r ≡ endedStep e a b c → At R (decision R B) r
     unfolding decision onReading treeFrom stateOf phaseOf phaseTree closed named
     unread-at e q r a b c h = rw (q, h) record { sees = (refl, refl); stands = refl }
 
@@ -194,21 +201,26 @@ module _ (R : Request) (B : Budgets) where
             (ap (closed (naming R)) (g .same) ∙ closed-follow (naming R) (searchOf R B) said ∙ ap (λ (v : Tree). follow v said) (read-decision R B c q))
             (shown-at R s (g .deep) (g .halts));
         moves = g .moves;
-        made = ran (g .ran);
-        few = omega (arith, g .begins .most, ran-bound (worldFor R) (g .ran));
+        made = read (ran (g .ran));
+        few = omega (arith, few-moves (worldFor R) _ _ _ _ _ _ _ (g .ran), shown-left R s (s .phase) (naming R) (g .deep) refl (g .halts));
       }
 
   pub not-read : (said : List ℕ) (e : ℕ) → readCertificate (R .end) true ≡ NoCertificate e → (r : Step) (a b c : ℕ) → r ≡ endedStep e a b c → Run R B said r
-  unfolding decision onReading
-  not-read said e q r a b c h = record { at = subst (λ (v : Tree). At R v r) (rw q (sym (follow-done (refused e) said))) (unread-at R B e q r a b c h); moves = 0; made = unread e q; few = omega arith }
+  unfolding decision onReading stateOf phaseOf phaseEffort
+  not-read said e q r a b c h = record {
+    at = subst (λ (v : Tree). At R v r) (rw q (sym (follow-done (refused e) said))) (unread-at R B e q r a b c h);
+    moves = 0;
+    made = unread e q;
+    few = rw h (omega arith);
+  }
 
 -- ---- what a question is about
 abbrev numbersOf : State → Numbers
-numbersOf s = record { key = keyAt s; certificate = whatAt s }
+numbersOf s = record { key = keyAt s; certificate = certAt s; list = s .list }
 
 pub question-told : (T I : List (List ℕ)) (E : List ℕ) (K : List (List ℕ)) (n : ℕ) (t : Step) (u : State) (q : Numbers) (r : Asked)
-    → u ≡ stateOf t → q ≡ record { key = keyAt u; certificate = whatAt u } → r ≡ askedOf (q .key) (q .certificate) (questionIn (readingsIn T I E n) I E K n (q .key) (q .certificate))
-    → Held T I E → r ≡ askedOf (keyAt (stateOf t)) (whatAt (stateOf t)) (questionOf I E K n (keyAt (stateOf t)) (whatAt (stateOf t)))
+    → u ≡ stateOf t → q ≡ record { key = keyAt u; certificate = certAt u; list = u .list } → r ≡ askedOf (q .key) (q .certificate) (questionIn (readingsIn T I E n) I E K n (q .key) (q .certificate))
+    → Held T I E → r ≡ askedOf (keyAt (stateOf t)) (certAt (stateOf t)) (questionOf I E K n (keyAt (stateOf t)) (certAt (stateOf t)))
 question-told T I E K n t u q r a b d h =
     d ∙ ap (λ (g : ℕ → Reading). askedOf (q .key) (q .certificate) (questionIn g I E K n (q .key) (q .certificate))) (held-readings T I E n h)
     ∙ ap (λ (m : Numbers). askedOf (m .key) (m .certificate) (questionOf I E K n (m .key) (m .certificate))) (b ∙ ap numbersOf a)

@@ -1,2 +1,7 @@
 pub mod Laws
-pub mod Theorems
+pub mod Questions
+pub mod Calls
+pub mod Decides
+pub mod Asks
+pub mod Moves
+pub mod Exports

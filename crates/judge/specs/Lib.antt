@@ -1,2 +1,7 @@
 pub mod Steps
-pub mod Verdict
+pub mod Decides
+pub mod Accounts
+pub mod Calls
+pub mod Asks
+pub mod Moves
+pub mod Exports

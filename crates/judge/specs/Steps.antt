@@ -1,8 +1,8 @@
--- What a step is: the state of the search that it holds, the dialogue that is left from it, and what a caller sees in it.
-use Prim.Native.Nat.{ℕ, suc, _*_, _≤_}
+-- What a step is: the state of the search that it holds, the dialogue that is left from it, and what a caller sees in it. Then the contracts of the calls.
+use Prim.Native.Nat.{ℕ, suc, _+_, _*_, _≤_}
 use mathlib.Core.Path.{_≡_}
 use mathlib.Core.Bool.{Bool, true, not}
-use mathlib.Core.List.{List}
+use mathlib.Core.List.{List, [], _∷_}
 use lib.Dec.{eqb}
 use Rattle.cert.specs.declared.Reading.{Reading}
 use Rattle.cert.specs.declared.Reading.the-variants.{Accepted, Refused as NoCertificate}
@@ -10,11 +10,10 @@ use Rattle.cert.specs.Model.{readCertificate}
 use Rattle.lent.specs.Lent.{pre}
 use Rattle.dialogue.specs.Model.{accepted, refused, spent, Tree, done, ask, offer}
 use Rattle.machine.specs.declared.State.{State}
-use Rattle.machine.specs.declared.Phase.{Phase}
 use Rattle.dialogue.specs.Dialogue.{give, follow}
-use Rattle.machine.specs.Machine.{treeOf, keyAt, whatAt, Ran, begun}
-use Rattle.conditions.specs.Request.{Request, Budgets}
-use Rattle.conditions.specs.Model.{nameOf, closed, worldFor, endOf, decision}
+use Rattle.machine.specs.Machine.{treeOf, keyAt, whatAt, effort, Ran, begun}
+use Rattle.conditions.specs.Request.{Request, Budgets, endOf}
+use Rattle.conditions.specs.Model.{nameOf, closed, worldFor, decision}
 use Rattle.steps.specs.declared.Step.{Step}
 use Rattle.steps.specs.Model.{stateOf, shownAs}
 
@@ -60,25 +59,38 @@ pub record At (R : Request) (t : Tree) (r : Step) : Type 0 where
   pub sees : Sees r t
   pub stands : treeFrom R r ≡ t
 
--- the first step of a search, and the step after an answer
-abbrev pub Begun : Request → Budgets → Step → Type 0
-Begun R B r = At R (decision R B) r
+-- ---- the moves that a call makes
+-- from the state s, with these answers on the way, the machine made so many moves, one after the other, to a state that is shown as r
+pub data Made (R : Request) (s : State) (answers : List ℕ) : Step → ℕ → Type 0 where
+  ran : {u : State} {moves : ℕ} → Ran (worldFor R) s u answers moves → Made R s answers (shownAs (nameOf (R .end) (R .kind) (R .name)) u (u .phase)) moves
 
-abbrev pub Answered : Request → Step → ℕ → Step → Type 0
-Answered R t a r = At R (give (treeFrom R t) a) r
+-- the same from the start; no move is made where the end entity cannot be read
+pub data FromStart (R : Request) (B : Budgets) (answers : List ℕ) (r : Step) : ℕ → Type 0 where
+  unread : (e : ℕ) → readCertificate (R .end) true ≡ NoCertificate e → FromStart R B answers r 0
+  read : {moves : ℕ} → Made R (begun (worldFor R) (endOf R) (B .signatures) (B .extensions) (B .comparisons)) answers r moves → FromStart R B answers r moves
 
--- ---- a whole run
--- the machine made so many moves, one after the other from the state at the start, to a state that is shown as r; none, where the end entity cannot be read
-pub data Made (R : Request) (B : Budgets) (answers : List ℕ) : Step → ℕ → Type 0 where
-  unread : {r : Step} (e : ℕ) → readCertificate (R .end) true ≡ NoCertificate e → Made R B answers r 0
-  ran : {phase : Phase} {s : State} {moves : ℕ} → Ran (worldFor R) (begun (endOf R) (B .signatures) (B .extensions) (B .comparisons) phase) s answers moves
-      → Made R B answers (shownAs (nameOf (R .end) (R .kind) (R .name)) s (s .phase)) moves
+-- how many moves can still follow a step, at most
+abbrev pub movesLeft : Request → Step → ℕ
+movesLeft R r = effort (worldFor R) (stateOf r)
 
+-- ---- the contracts
+-- a whole run: where these answers lead to, and the moves. They and those that can follow are at most (A + I + 1)(C + 1)
 pub record Run (R : Request) (B : Budgets) (answers : List ℕ) (r : Step) : Type 0 where
   pub at : At R (follow (decision R B) answers) r
   pub moves : ℕ
-  pub made : Made R B answers r moves
-  pub few : moves ≤ suc (endOf R) * suc (B .extensions)
+  pub made : FromStart R B answers r moves
+  pub few : moves + movesLeft R r ≤ suc (endOf R) * suc (B .extensions)
+
+-- the first step of a search: a run without an answer
+abbrev pub Begun : Request → Budgets → Step → Type 0
+Begun R B r = Run R B [] r
+
+-- the step after an answer: the moves of this call and those that can follow are at most those that could follow the step before
+pub record Answered (R : Request) (s : Step) (a : ℕ) (r : Step) : Type 0 where
+  pub at : At R (give (treeFrom R s) a) r
+  pub moves : ℕ
+  pub made : Made R (stateOf s) (a ∷ []) r moves
+  pub few : moves + movesLeft R r ≤ movesLeft R s
 
 -- ---- one certificate by itself
 unfoldable pub faultOf : Reading → ℕ

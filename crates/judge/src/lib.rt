@@ -12,7 +12,7 @@ ghost use mathlib.Core.Bool.{true};
 ghost use Rattle.cert.specs.Model.{readCertificate, readAnchor};
 ghost use Rattle.table.specs.Model.{Held};
 ghost use Rattle.asked.specs.Model.{questionOf};
-ghost use Rattle.machine.specs.Machine.{keyAt, whatAt};
+ghost use Rattle.machine.specs.Machine.{keyAt, certAt};
 ghost use Rattle.conditions.specs.Model.{nameOf};
 ghost use Rattle.judge.specs.Steps.{requestOf, budgetsOf, Begun, Answered, Run, faultOf};
 ghost use Rattle.steps.specs.Model.{stateOf};
@@ -167,7 +167,7 @@ pub extern "C" fn pathjudge_question<'a>(
     table: &'a [[usize; 37]],
     step: Step,
 ) -> Asked
-    ensures { λ r. ⌜ (Held (now (table .entry)) (map now (now (issuers .entry))) (now (end .entry)) → r ≡ askedOf (keyAt (stateOf step)) (whatAt (stateOf step)) (questionOf (map now (now (issuers .entry))) (now (end .entry)) (map now (now (keys .entry))) anchors (keyAt (stateOf step)) (whatAt (stateOf step)))) ⌝ }
+    ensures { λ r. ⌜ (Held (now (table .entry)) (map now (now (issuers .entry))) (now (end .entry)) → r ≡ askedOf (keyAt (stateOf step)) (certAt (stateOf step)) (questionOf (map now (now (issuers .entry))) (now (end .entry)) (map now (now (keys .entry))) anchors (keyAt (stateOf step)) (certAt (stateOf step)))) ⌝ }
 {
     let numbers = machine::asked(steps::state_of(step));
     told::question(

@@ -1,3 +1,4 @@
 pub mod Laws
 pub mod Labels
 pub mod Valid
+pub mod Differences

@@ -33,7 +33,7 @@ capital b = leb 65 b && leb b 90
 unfoldable pub letter : ℕ → Bool
 letter b = capital b || (leb 97 b && leb b 122)
 
--- RFC 1034, 3.5: letters, digits and the hyphen; and the underscore, which host names in use have
+-- RFC 1034, 3.5: letters, digits and the hyphen; and the underscore, which host names in use have (weaker, D19)
 unfoldable pub labelByte : ℕ → Bool
 labelByte b = letter b || (digit b || (eqb b hyphen || eqb b underscore))
 
@@ -70,7 +70,7 @@ goodLabel l =
     ltb 0 (length l)
     && (leb (length l) longestLabel && (every labelByte l && (not (eqb (getD l 0 0) hyphen) && not (eqb (lastOf 0 l) hyphen))))
 
--- RFC 1123, 2.1: the last label is not all digits, so that no name has an address's form
+-- RFC 1123, 2.1: the last label is not all digits, so that no name has an address's form (stricter, D51: its syntax alone allows it)
 unfoldable pub hostName : Labels → Bool
 hostName ls = every goodLabel ls && not (every digit (lastOf [] ls))
 
@@ -78,7 +78,7 @@ hostName ls = every goodLabel ls && not (every digit (lastOf [] ls))
 unfoldable pub relative : Labels → Labels
 relative ls = cond (none (lastOf [] ls)) (take (length ls - 1) ls) ls
 
--- ---- the three roles of a text of at most 253 bytes
+-- ---- the three roles of a text of at most 253 bytes, the last dot of a complete name among them (stricter, D51)
 abbrev pub short : List ℕ → Bool
 short h = leb (length h) longestName
 
@@ -92,13 +92,13 @@ starred [] = false
 starred ([] ∷ ls) = false
 starred ((b ∷ l) ∷ ls) = eqb b star && none l
 
--- RFC 9525, 6.3: a star is the whole first label; two labels after it, so that it stands for no part of a top level
+-- RFC 9525, 6.3: a star is the whole first label. rustls-webpki wants two labels after it, so that it stands for no part of a top level (stricter, D51)
 unfoldable pub presentedName : List ℕ → Bool
 presentedName h =
     short h
     && cond (starred (labels h)) (leb 2 (length (drop 1 (labels h))) && hostName (drop 1 (labels h))) (hostName (labels h))
 
--- RFC 5280, 4.2.1.10: a name; or one after a dot; or no text at all
+-- RFC 5280, 4.2.1.10: a name. rustls-webpki takes one after a dot too, and no text at all (weaker, D47)
 unfoldable pub entryName : List ℕ → Bool
 entryName h =
     short h && (none h || hostName (cond (none (getD (labels h) 0 [])) (drop 1 (labels h)) (labels h)))

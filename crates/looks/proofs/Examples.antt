@@ -6,7 +6,8 @@ use mathlib.Core.Bool.{true}
 use Rattle.der.specs.Places.{part}
 use Rattle.der.specs.Loop.{run, walk}
 use Rattle.der.specs.Model.{highTag, numberAt, least, longForm, byFirst, readLength, withLength, readLimited, readValue, ofTag, expectAt, onContent}
-use Rattle.parts.specs.Model.{sameList, sameParts}
+use Rattle.parts.specs.Lists.{sameList}
+use Rattle.parts.specs.Model.{sameParts}
 use Rattle.looks.specs.Der.{longLooks, firstLooks, lengthLooks, valueLooks, pairLooks, sameLooks}
 use Rattle.values.specs.Model.{onlyByte, truthIn, readBool, positiveIn, nonnegative, smallIn, readSmall}
 use Rattle.bits.specs.Model.{wholeOctets, bitsAt}

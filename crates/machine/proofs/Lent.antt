@@ -18,7 +18,7 @@ use Rattle.rows.specs.Model.{outlined}
 use Rattle.table.specs.Model.{Held}
 use Rattle.asked.specs.Model.{replyIn}
 use Rattle.path.specs.Model.{checkIn}
-use Rattle.candidate.specs.Model.{verdictIn}
+use Rattle.candidate.specs.Model.{isFlagged, verdictIn}
 use Rattle.lent.proofs.Laws.{held-readings}
 use Rattle.entries.specs.declared.Spent.{Spent}
 use Rattle.entries.specs.Tally.{Tally, clean, after, spend}
@@ -27,7 +27,7 @@ use Rattle.subtrees.specs.Noted.{Noted, lent}
 use Rattle.constraints.specs.Paths.{notedOf, certAt, certsAt}
 use Rattle.subtrees.specs.Model.{onRead}
 use Rattle.constraints.specs.Model.{ownIn, own, anchoredIn, issuersIn, issuers as those-of, pathConstraintsIn, pathConstraints}
-use Rattle.dialogue.specs.Model.{Path, World, signatures}
+use Rattle.dialogue.specs.Model.{Path, World}
 use Rattle.machine.specs.World.{meaningOf, isBound, namesOf, constrainedAs, namesIn, worldOf, worldIn, Judges}
 use Rattle.machine.proofs.Levels.{pre-push}
 
@@ -74,13 +74,11 @@ names-bare R I E anchors C B k path left b c = let z : left - 0 ≡ left = omega
 -- an anchor that is bound has its constraints in the list
 pub bound-there : (C : List (List ℕ)) (B : List ℕ) (k : ℕ) → isBound C B k ≡ true → k < length C
 unfolding isBound
-bound-there C B k e = by (ltb k (length B)) (eqb (getD B k 0) 0) (ltb k (length C)) refl e
+bound-there C B k e = by (isFlagged B k) e
   where
-    by : (a b d : Bool) → ltb k (length C) ≡ d → cond a (cond b false d) false ≡ true → k < length C
-    by true true d h e = let z : _≡_ {A = ℕ} 0 1 = cc in absurd (omega arith)
-    by true false true h e = ltb-true k (length C) h
-    by true false false h e = let z : _≡_ {A = ℕ} 0 1 = cc in absurd (omega arith)
-    by false b d h e = let z : _≡_ {A = ℕ} 0 1 = cc in absurd (omega arith)
+    by : (a : Bool) → cond a (ltb k (length C)) false ≡ true → k < length C
+    by true e = ltb-true k (length C) e
+    by false e = let z : _≡_ {A = ℕ} 0 1 = cc in absurd (omega arith)
 
 -- ---- what is left of the comparisons
 module _ (n : ℕ) (t : Tally) (x : Spent) (e : x ≡ spend n t) where
@@ -107,6 +105,7 @@ pub judges : (R : ℕ → Reading) (I : List (List ℕ)) (E : List ℕ) (S K C :
     → Judges (worldIn R I E S K C B D t w m) R I E K C B n
 unfolding worldIn
 judges R I E S K C B D t w m n e = record {
+  after = λ key what below k. refl;
   reply = λ key what a. ap (λ (k : ℕ). replyIn R I E K k key (meaningOf a)) (sym e);
   cost = λ anchor path. ap (λ (k : ℕ). namesIn R I E k C B anchor path .taken) (sym e);
   named = λ anchor path. ap (λ (k : ℕ). namesIn R I E k C B anchor path .refusal) (sym e);
@@ -163,9 +162,9 @@ world-held T I E S K C B D t w m n q h =
     same : worldIn (readingsOf I E (length S)) I E S K C B D t w m ≡ worldOf I E S K C B D t w m
     same = λ i. record {
       candidates = length S + length I;
-      verdict = verdictIn (readingsOf I E (length S)) I E S K D;
+      verdict = verdictIn (readingsOf I E (length S)) I E S K C B D;
       check = checkIn (readingsOf I E (length S)) I E (length S) D t w m;
-      stages = signatures;
+      after = λ key what below k. [];
       reply = λ key what answer. replyIn (readingsOf I E (length S)) I E K (length S) key (meaningOf answer);
       cost = λ anchor path. names-same I E (length S) C B anchor path i .taken;
       named = λ anchor path. names-same I E (length S) C B anchor path i .refusal;

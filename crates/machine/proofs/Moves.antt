@@ -5,9 +5,9 @@ use mathlib.Core.Bool.{Bool, true, false, cond}
 use mathlib.Core.List.{List, [], _∷_, _++_}
 use mathlib.Core.Logic.{inl, inr, ⊎-elim}
 use native.Mathlib.Omega.{arith}
-use lib.Dec.{ltb}
+use lib.Dec.{ltb, eqb}
 use lib.ListN.{length, getD, set}
-use borrow.Author.Tests.{lt-ltb, le-ltb, ltb-true}
+use borrow.Author.Tests.{lt-ltb, le-ltb, ltb-true, ne-eqb}
 use Rattle.refusal.specs.Refusals.{maximumPathDepthExceeded, maximumSignatureChecksExceeded, maximumPathBuildCallsExceeded, maximumNameConstraintComparisonsExceeded}
 use Rattle.refusal.specs.Model.{worseOf}
 use Rattle.lent.specs.Lent.{mostIntermediates, lower, pre}
@@ -16,13 +16,14 @@ use Rattle.candidate.specs.declared.Verdict.the-variants.{Pass, Anchor, Extend}
 use Rattle.machine.specs.declared.State.{State}
 use Rattle.machine.specs.declared.Phase.{Phase}
 use Rattle.machine.specs.declared.Phase.the-variants.{Walk, Ask, Offer, Found, Refused, Spent}
-use Rattle.dialogue.specs.Model.{Path, Stage, World, signatures, Event, note, extension, leave, accepted, done, offer, unless, one, enter, through, conclude, run}
+use Rattle.dialogue.specs.Log.{What, ofCertificate, ofList}
+use Rattle.dialogue.specs.Model.{Path, Stage, World, question, finding, staged, Event, note, extension, leave, accepted, done, offer, unless, one, enter, through, run}
 use Rattle.dialogue.specs.Dialogue.{give}
 use Rattle.dialogue.specs.Work.{paid}
 use Rattle.machine.specs.Levels.{under}
-use Rattle.machine.specs.Machine.{left, here, onward, clearTree, wrongTree, placeOf, keyAt, whatAt, moreTree, askTree, phaseTree, treeOf, still, phaseEffort, effort, Stands, Kept, Pushed, Heard, Grew, One, ends, leaves, looks, pushes, following, stepped, noting, Moved, tryTree, extendTree, extendStill}
+use Rattle.machine.specs.Machine.{left, here, onward, clearTree, wrongTree, placeOf, keyAt, certAt, whatAt, restAt, moreTree, askTree, phaseTree, treeOf, still, phaseEffort, effort, Stands, Kept, Pushed, Heard, Grew, One, ends, leaves, looks, pushes, following, stepped, noting, Moved, tryTree, extendTree, extendStill}
 use Rattle.machine.proofs.Levels.{lower-step, enter-deep, enter-refused, level-done, under-bottom, under-step, level-next, level-push}
-use Rattle.machine.proofs.Steps.{unless-refused, paid-extension, run-extension, run-no-extension, through-asks, through-no-signature, conclude-no-comparison, conclude-refused, conclude-offers}
+use Rattle.machine.proofs.Steps.{now, unless-refused, paid-extension, run-extension, run-no-extension, Skips, through-skips, through-found, through-asks, through-no-signature, conclude-no-comparison, conclude-refused, conclude-offers}
 
 place-most : (s : State) → placeOf s ≤ s .depth
 place-most s = by (ltb (s .at) (s .depth)) refl
@@ -34,29 +35,25 @@ place-most s = by (ltb (s .at) (s .depth)) refl
 module _ (W : World) where
   module _ (s : State) (deep : s .depth < 7) where
     abbrev ended : Phase → State
-    ended ph = record { path = s .path; next = s .next; depth = s .depth; at = s .at; anchor = s .anchor; signatures = s .signatures; extensions = s .extensions; comparisons = s .comparisons; best = s .best; phase = ph }
+    ended ph = record { path = s .path; next = s .next; depth = s .depth; at = s .at; list = s .list; anchor = s .anchor; signatures = s .signatures; extensions = s .extensions; comparisons = s .comparisons; best = s .best; phase = ph }
 
     -- ---- an anchor is tried
-    module _ (plain : (k : ℕ) (p : Path) → W .stages k p ≡ signatures k p) (i : ℕ) where
-      tried : tryTree W s i ≡ through W (λ s′. conclude W (λ x n′. run W (left W s) s′ (s .extensions) n′ (worseOf (s .best) x)) i (here s) (s .comparisons)) (λ x s′. run W (left W s) s′ (s .extensions) (s .comparisons) (worseOf (s .best) x)) (signatures i (here s)) (s .signatures)
-      unfolding run
-      tried = ap (λ (l : List Stage). through W (λ s′. conclude W (λ x n′. run W (left W s) s′ (s .extensions) n′ (worseOf (s .best) x)) i (here s) (s .comparisons)) (λ x s′. run W (left W s) s′ (s .extensions) (s .comparisons) (worseOf (s .best) x)) l (s .signatures)) (plain i (here s))
-
+    module _ (i : ℕ) where
       pub try-out : s .signatures ≡ 0 → Heard W s (ended (Spent maximumSignatureChecksExceeded)) (tryTree W s i) (still W s)
-      unfolding phaseTree phaseEffort signatures
-      try-out h = record { same = sym (tried ∙ through-no-signature W _ _ i _ _ (s .signatures) h); deep = deep; most = omega arith; kept = record { path = refl; next = refl; depth = refl } }
+      unfolding phaseTree phaseEffort run staged
+      try-out h = record { same = sym (through-no-signature W _ _ i _ _ (s .signatures) h); deep = deep; most = omega arith; kept = record { path = refl; next = refl; depth = refl } }
 
       abbrev asking : State
-      asking = record { path = s .path; next = s .next; depth = s .depth; at = s .depth; anchor = i; signatures = s .signatures - 1; extensions = s .extensions; comparisons = s .comparisons; best = s .best; phase = Ask }
+      asking = record { path = s .path; next = s .next; depth = s .depth; at = s .depth; list = 0; anchor = i; signatures = s .signatures - 1; extensions = s .extensions; comparisons = s .comparisons; best = s .best; phase = Ask }
 
       pub try-asks : (s .signatures ≡ 0 → ⊥) → Heard W s asking (tryTree W s i) (still W s)
-      unfolding phaseTree phaseEffort signatures
+      unfolding phaseTree phaseEffort run staged
       try-asks h =
           let top : ltb (s .depth) (s .depth) ≡ false = le-ltb (s .depth) (s .depth) (omega arith) in
           record {
             same =
-                ap (λ (b : Bool). askTree W asking (cond b (getD (s .path) (s .depth + 1) 0) i) (cond b (s .depth) (s .depth))) top
-                ∙ through-asks W _ _ i _ _ (s .signatures) h ∙ sym tried;
+                ap (λ (b : Bool). askTree W asking (cond b (getD (s .path) (s .depth + 1) 0) i) (cond b (s .depth) (s .depth)) (ofCertificate (getD (s .path) (cond b (s .depth) (s .depth)) 0))) top
+                ∙ through-asks W _ _ i _ _ (s .signatures) h;
             deep = deep;
             most = omega arith;
             kept = record { path = refl; next = refl; depth = refl };
@@ -73,7 +70,7 @@ module _ (W : World) where
 
       module _ (pays : s .extensions ≡ 0 → ⊥) where
         abbrev failing : ℕ → State
-        failing e = record { path = s .path; next = s .next; depth = s .depth; at = s .at; anchor = s .anchor; signatures = s .signatures; extensions = s .extensions - 1; comparisons = s .comparisons; best = e; phase = s .phase }
+        failing e = record { path = s .path; next = s .next; depth = s .depth; at = s .at; list = s .list; anchor = s .anchor; signatures = s .signatures; extensions = s .extensions - 1; comparisons = s .comparisons; best = e; phase = s .phase }
 
         failed : (x b : ℕ) → b ≡ worseOf (s .best) x → enter W (mostIntermediates - s .depth) (i ∷ here s) ≡ note x ∷ [] → Grew W s (failing b) i (extendTree W s i) (extendStill W s i)
         unfolding phaseTree phaseEffort run paid
@@ -99,7 +96,7 @@ module _ (W : World) where
         extend-refused x b e h k z = failed x b e (enter-refused W (mostIntermediates - s .depth) (i ∷ here s) x (omega arith) k z)
 
         abbrev pushed : State
-        pushed = record { path = set (s .path) (s .depth + 1) i; next = set (s .next) (s .depth + 1) 0; depth = s .depth + 1; at = s .at; anchor = s .anchor; signatures = s .signatures; extensions = s .extensions - 1; comparisons = s .comparisons; best = s .best; phase = s .phase }
+        pushed = record { path = set (s .path) (s .depth + 1) i; next = set (s .next) (s .depth + 1) 0; depth = s .depth + 1; at = s .at; list = s .list; anchor = s .anchor; signatures = s .signatures; extensions = s .extensions - 1; comparisons = s .comparisons; best = s .best; phase = s .phase }
 
         pub extend-goes : length (s .path) ≡ 7 → length (s .next) ≡ 7 → (s .depth ≡ mostIntermediates → ⊥) → W .check (i ∷ here s) ≡ 0 → Grew W s pushed i (extendTree W s i) (extendStill W s i)
         unfolding phaseTree phaseEffort
@@ -139,11 +136,11 @@ module _ (W : World) where
               deep = deep;
               less = omega (arith, mine);
               walks = walks;
-              one = ends (record { path = refl; next = refl; depth = refl }) z refl;
+              one = ends none (record { path = refl; next = refl; depth = refl }) z refl;
             }
 
         abbrev popped : State
-        popped = record { path = s .path; next = s .next; depth = s .depth - 1; at = s .at; anchor = s .anchor; signatures = s .signatures; extensions = s .extensions; comparisons = s .comparisons; best = s .best; phase = s .phase }
+        popped = record { path = s .path; next = s .next; depth = s .depth - 1; at = s .at; list = s .list; anchor = s .anchor; signatures = s .signatures; extensions = s .extensions; comparisons = s .comparisons; best = s .best; phase = s .phase }
 
         pub pops : (s .depth ≡ 0 → ⊥) → Moved W s popped
         unfolding phaseTree phaseEffort run paid
@@ -159,7 +156,7 @@ module _ (W : World) where
               deep = omega arith;
               less = omega (arith, mine);
               walks = walks;
-              one = leaves refl refl (omega (arith, z));
+              one = leaves none refl refl (omega (arith, z));
             }
 
       module _ (some : getD (s .next) (s .depth) 0 < W .candidates) (ln : length (s .next) ≡ 7) where
@@ -169,7 +166,8 @@ module _ (W : World) where
         ahead : (v : Verdict) → W .verdict (here s) i ≡ v → left W s ≡ one (enter W (mostIntermediates - s .depth)) (here s) i v ++ left W (stepped s)
         ahead v e = level-next W (s .path) (s .next) (s .depth) v some (omega arith) e
 
-        moved : (r : State) (es : List Event) → left W s ≡ es → Stands W r (run W es (s .signatures) (s .extensions) (s .comparisons) (s .best)) (paid es (s .extensions) - 1) → 0 < paid es (s .extensions) → One s r → Moved W s r
+        moved : (r : State) (es : List Event) → left W s ≡ es → Stands W r (run W es (s .signatures) (s .extensions) (s .comparisons) (s .best)) (paid es (s .extensions) - 1)
+            → 0 < paid es (s .extensions) → One W s r → Moved W s r
         unfolding phaseTree
         moved r es e h l o =
             let all : still W s ≡ paid es (s .extensions) = ap (λ (z : List Event). paid z (s .extensions)) e in
@@ -183,7 +181,7 @@ module _ (W : World) where
 
         pub tries : (r : State) → W .verdict (here s) i ≡ Anchor → Heard W (stepped s) r (tryTree W (stepped s) i) (still W (stepped s)) → Moved W s r
         unfolding one paid
-        tries r e h = moved r _ (ahead Anchor e) (record { same = h .same; deep = h .deep; most = omega (arith, h .most) }) (omega arith) (looks (h .kept .path) (h .kept .next) (h .kept .depth))
+        tries r e h = moved r _ (ahead Anchor e) (record { same = h .same; deep = h .deep; most = omega (arith, h .most) }) (omega arith) (looks some (h .kept .path) (h .kept .next) (h .kept .depth))
 
         positive : (es : List Event) (b : ℕ) → 0 < paid (extension ∷ es) b
         unfolding paid
@@ -194,7 +192,7 @@ module _ (W : World) where
         unfolding one
         extends r e h =
             moved r _ (ahead Extend e) (record { same = h .same; deep = h .deep; most = h .most }) (positive _ (s .extensions))
-            (⊎-elim (λ (k : Kept (stepped s) r). looks (k .path) (k .next) (k .depth)) (λ (k : Pushed (stepped s) r i). pushes (k .path) (k .next) (k .depth)) (h .grew))
+            (⊎-elim (λ (k : Kept (stepped s) r). looks some (k .path) (k .next) (k .depth)) (λ (k : Pushed (stepped s) r i). pushes some (k .path) (k .next) (k .depth)) (h .grew))
 
         pub notes : (r : State) (x : ℕ) → r ≡ noting (stepped s) x → W .verdict (here s) i ≡ Pass x → Moved W s r
         unfolding one run phaseTree phaseEffort paid
@@ -202,21 +200,21 @@ module _ (W : World) where
             let u = noting (stepped s) x in
             let its : phaseEffort W u (s .phase) ≡ paid (left W (stepped s)) (s .extensions) = ap (phaseEffort W u) walks in
             subst (Moved W s) (sym n)
-            (moved u _ (ahead (Pass x) e) (record { same = ap (phaseTree W u) walks; deep = deep; most = omega arith }) (omega arith) (looks refl refl refl))
+            (moved u _ (ahead (Pass x) e) (record { same = ap (phaseTree W u) walks; deep = deep; most = omega arith }) (omega arith) (looks some refl refl refl))
 
     -- ---- an answer
     abbrev walking : ℕ → State
-    walking b = record { path = s .path; next = s .next; depth = s .depth; at = s .at; anchor = s .anchor; signatures = s .signatures; extensions = s .extensions; comparisons = s .comparisons; best = b; phase = Walk }
+    walking b = record { path = s .path; next = s .next; depth = s .depth; at = s .at; list = s .list; anchor = s .anchor; signatures = s .signatures; extensions = s .extensions; comparisons = s .comparisons; best = b; phase = Walk }
 
     module _ (asks : s .phase ≡ Ask) (a : ℕ) where
       its : effort W s ≡ still W s
       unfolding phaseEffort
       its = ap (phaseEffort W s) asks
 
-      replied : (x : ℕ) → W .reply (keyAt s) (whatAt s) a ≡ x → unless x (moreTree W s (placeOf s)) (λ y. wrongTree W s y (s .signatures)) ≡ give (treeOf W s) a
+      replied : (x : ℕ) → W .reply (keyAt s) (whatAt s) a ≡ x → unless x (moreTree W s (keyAt s) (placeOf s)) (λ y. wrongTree W s y (s .signatures)) ≡ give (treeOf W s) a
       unfolding phaseTree give
       replied x y =
-          ap (λ (n : ℕ). unless n (moreTree W s (placeOf s)) (λ y. wrongTree W s y (s .signatures))) (sym y)
+          ap (λ (n : ℕ). unless n (moreTree W s (keyAt s) (placeOf s)) (λ y. wrongTree W s y (s .signatures))) (sym y)
           ∙ ap (λ (p : Phase). give (phaseTree W s p) a) (sym asks)
 
       pub denied : (x b : ℕ) → W .reply (keyAt s) (whatAt s) a ≡ x → (x ≡ 0 → ⊥) → b ≡ worseOf (s .best) x → Heard W s (walking b) (give (treeOf W s) a) (effort W s)
@@ -225,7 +223,7 @@ module _ (W : World) where
           record {
             same =
                 ap (λ (n : ℕ). onward W s (s .signatures) (s .comparisons) n) e
-                ∙ sym (unless-refused (moreTree W s (placeOf s)) (λ y. wrongTree W s y (s .signatures)) x z)
+                ∙ sym (unless-refused (moreTree W s (keyAt s) (placeOf s)) (λ y. wrongTree W s y (s .signatures)) x z)
                 ∙ replied x y;
             deep = deep;
             most = omega (arith, its);
@@ -233,17 +231,36 @@ module _ (W : World) where
           }
 
       module _ (yes : W .reply (keyAt s) (whatAt s) a ≡ 0) where
-        agreed : moreTree W s (placeOf s) ≡ give (treeOf W s) a
+        agreed : moreTree W s (keyAt s) (placeOf s) ≡ give (treeOf W s) a
         agreed = replied 0 yes
 
-        module _ (last : placeOf s ≡ 0) where
+        -- what is left of the stages after the answer
+        abbrev rest′ : List Stage
+        rest′ = restAt W s (keyAt s) (placeOf s) (s .list)
+
+        -- a check that asks nothing has something against the path
+        pub found : (x b : ℕ) (l : List Stage) → Skips rest′ (finding x ∷ l) → (x ≡ 0 → ⊥) → b ≡ worseOf (s .best) x → Heard W s (walking b) (give (treeOf W s) a) (effort W s)
+        unfolding phaseTree phaseEffort
+        found x b l h z e =
+            record {
+              same =
+                  ap (λ (n : ℕ). onward W s (s .signatures) (s .comparisons) n) e
+                  ∙ sym (through-found W (clearTree W s) (wrongTree W s) (s .signatures) x l z)
+                  ∙ sym (through-skips W (clearTree W s) (wrongTree W s) (s .signatures) h)
+                  ∙ agreed;
+              deep = deep;
+              most = omega (arith, its);
+              kept = record { path = refl; next = refl; depth = refl };
+            }
+
+        module _ (clear : Skips rest′ []) where
           settled : clearTree W s (s .signatures) ≡ give (treeOf W s) a
-          unfolding lower signatures through
-          settled = ap (λ (n : ℕ). moreTree W s n) (sym last) ∙ agreed
+          unfolding through
+          settled = sym (through-skips W (clearTree W s) (wrongTree W s) (s .signatures) clear) ∙ agreed
 
           -- what is left of the comparisons makes no difference any more
           abbrev exhausted : ℕ → State
-          exhausted n = record { path = s .path; next = s .next; depth = s .depth; at = s .at; anchor = s .anchor; signatures = s .signatures; extensions = s .extensions; comparisons = n; best = s .best; phase = Spent maximumNameConstraintComparisonsExceeded }
+          exhausted n = record { path = s .path; next = s .next; depth = s .depth; at = s .at; list = s .list; anchor = s .anchor; signatures = s .signatures; extensions = s .extensions; comparisons = n; best = s .best; phase = Spent maximumNameConstraintComparisonsExceeded }
 
           pub names-out : (n : ℕ) → s .comparisons < W .cost (s .anchor) (here s) → Heard W s (exhausted n) (give (treeOf W s) a) (effort W s)
           unfolding phaseTree phaseEffort
@@ -251,7 +268,7 @@ module _ (W : World) where
 
           module _ (q : ℕ) (cost : q ≡ s .comparisons - W .cost (s .anchor) (here s)) (fits : W .cost (s .anchor) (here s) ≤ s .comparisons) where
             abbrev misnamed : ℕ → State
-            misnamed b = record { path = s .path; next = s .next; depth = s .depth; at = s .at; anchor = s .anchor; signatures = s .signatures; extensions = s .extensions; comparisons = q; best = b; phase = Walk }
+            misnamed b = record { path = s .path; next = s .next; depth = s .depth; at = s .at; list = s .list; anchor = s .anchor; signatures = s .signatures; extensions = s .extensions; comparisons = q; best = b; phase = Walk }
 
             pub names-refused : (y b : ℕ) → W .named (s .anchor) (here s) ≡ y → (y ≡ 0 → ⊥) → b ≡ worseOf (s .best) y → Heard W s (misnamed b) (give (treeOf W s) a) (effort W s)
             unfolding phaseTree phaseEffort
@@ -268,7 +285,7 @@ module _ (W : World) where
                 }
 
             abbrev offering : State
-            offering = record { path = s .path; next = s .next; depth = s .depth; at = s .at; anchor = s .anchor; signatures = s .signatures; extensions = s .extensions; comparisons = q; best = s .best; phase = Offer }
+            offering = record { path = s .path; next = s .next; depth = s .depth; at = s .at; list = s .list; anchor = s .anchor; signatures = s .signatures; extensions = s .extensions; comparisons = q; best = s .best; phase = Offer }
 
             pub names-clear : W .named (s .anchor) (here s) ≡ 0 → Heard W s offering (give (treeOf W s) a) (effort W s)
             unfolding phaseTree phaseEffort
@@ -283,35 +300,60 @@ module _ (W : World) where
                   kept = record { path = refl; next = refl; depth = refl };
                 }
 
-        module _ (more : placeOf s ≡ 0 → ⊥) where
-          goes-on : through W (clearTree W s) (wrongTree W s) (signatures (whatAt s) (pre (s .path) (placeOf s - 1))) (s .signatures) ≡ give (treeOf W s) a
-          goes-on = ap (λ (l : Path). through W (clearTree W s) (wrongTree W s) (signatures (whatAt s) l) (s .signatures)) (sym (lower-step (s .path) (placeOf s) more)) ∙ agreed
+        -- the next question, whatever it is about
+        module _ (key : ℕ) (what : What) (l : List Stage) (next′ : Skips rest′ (question key what ∷ l)) where
+          goes-on : through W (clearTree W s) (wrongTree W s) (question key what ∷ l) (s .signatures) ≡ give (treeOf W s) a
+          goes-on = sym (through-skips W (clearTree W s) (wrongTree W s) (s .signatures) next′) ∙ agreed
 
           pub no-signature : s .signatures ≡ 0 → Heard W s (ended (Spent maximumSignatureChecksExceeded)) (give (treeOf W s) a) (effort W s)
-          unfolding phaseTree phaseEffort signatures
+          unfolding phaseTree phaseEffort
           no-signature z =
-              record { same = sym (through-no-signature W (clearTree W s) (wrongTree W s) (whatAt s) _ _ (s .signatures) z) ∙ goes-on; deep = deep; most = omega arith; kept = record { path = refl; next = refl; depth = refl } }
+              record { same = sym (through-no-signature W (clearTree W s) (wrongTree W s) key what l (s .signatures) z) ∙ goes-on; deep = deep; most = omega arith; kept = record { path = refl; next = refl; depth = refl } }
 
-          abbrev lowered : ℕ → State
-          lowered m = record { path = s .path; next = s .next; depth = s .depth; at = m; anchor = s .anchor; signatures = s .signatures - 1; extensions = s .extensions; comparisons = s .comparisons; best = s .best; phase = Ask }
+        abbrev asking-at : ℕ → ℕ → State
+        asking-at m k = record { path = s .path; next = s .next; depth = s .depth; at = m; list = k; anchor = s .anchor; signatures = s .signatures - 1; extensions = s .extensions; comparisons = s .comparisons; best = s .best; phase = Ask }
 
-          -- the question after this one is about the certificate below, with this one's key
-          pub asks-on : (m : ℕ) → m ≡ placeOf s - 1 → (s .signatures ≡ 0 → ⊥) → Heard W s (lowered m) (give (treeOf W s) a) (effort W s)
-          unfolding phaseTree phaseEffort signatures
-          asks-on m e z =
-              let inside : ltb m (s .depth) ≡ true = lt-ltb m (s .depth) (omega (arith, place-most s)) in
-              let up : m + 1 ≡ placeOf s = omega arith in
-              record {
-                same =
-                    ap (λ (b : Bool). askTree W (lowered m) (cond b (getD (s .path) (m + 1) 0) (s .anchor)) (cond b m (s .depth))) inside
-                    ∙ ap (λ (n : ℕ). askTree W (lowered m) (getD (s .path) n 0) m) up
-                    ∙ ap (λ (n : ℕ). askTree W (lowered m) (whatAt s) n) e
-                    ∙ through-asks W (clearTree W s) (wrongTree W s) (whatAt s) _ _ (s .signatures) z
-                    ∙ goes-on;
-                deep = deep;
-                most = omega (arith, its);
-                kept = record { path = refl; next = refl; depth = refl };
-              }
+        -- a list is asked about, for the same certificate
+        pub asks-list : (k : ℕ) → Skips rest′ (question (keyAt s) (ofList (k - 1)) ∷ restAt W s (keyAt s) (placeOf s) k) → (k ≡ 0 → ⊥) → (s .signatures ≡ 0 → ⊥)
+            → Heard W s (asking-at (s .at) k) (give (treeOf W s) a) (effort W s)
+        unfolding phaseTree phaseEffort
+        asks-list k h nz z =
+            let about : eqb k 0 ≡ false = ne-eqb k 0 nz in
+            record {
+              same =
+                  ap (λ (b : Bool). askTree W (asking-at (s .at) k) (keyAt s) (placeOf s) (cond b (ofCertificate (certAt s)) (ofList (k - 1)))) about
+                  ∙ through-asks W (clearTree W s) (wrongTree W s) (keyAt s) (ofList (k - 1)) _ (s .signatures) z
+                  ∙ goes-on _ _ _ h;
+              deep = deep;
+              most = omega (arith, its);
+              kept = record { path = refl; next = refl; depth = refl };
+            }
+
+        pub out-on : (placeOf s ≡ 0 → ⊥) → Skips rest′ (staged W (certAt s) (lower (s .path) (placeOf s))) → s .signatures ≡ 0 → Heard W s (ended (Spent maximumSignatureChecksExceeded)) (give (treeOf W s) a) (effort W s)
+        unfolding staged
+        out-on more h z =
+            no-signature (certAt s) (ofCertificate (getD (s .path) (placeOf s - 1) 0)) _
+            (subst (λ (l : List Stage). Skips rest′ l) (ap (staged W (certAt s)) (lower-step (s .path) (placeOf s) more)) h) z
+
+        -- the certificate below is asked about, with this one's key
+        pub asks-on : (m : ℕ) → m ≡ placeOf s - 1 → (placeOf s ≡ 0 → ⊥) → Skips rest′ (staged W (certAt s) (lower (s .path) (placeOf s))) → (s .signatures ≡ 0 → ⊥)
+            → Heard W s (asking-at m 0) (give (treeOf W s) a) (effort W s)
+        unfolding phaseTree phaseEffort staged
+        asks-on m e more h z =
+            let inside : ltb m (s .depth) ≡ true = lt-ltb m (s .depth) (omega (arith, place-most s)) in
+            let up : m + 1 ≡ placeOf s = omega arith in
+            let list : staged W (certAt s) (lower (s .path) (placeOf s)) ≡ staged W (certAt s) (pre (s .path) (placeOf s - 1)) = ap (staged W (certAt s)) (lower-step (s .path) (placeOf s) more) in
+            record {
+              same =
+                  ap (λ (b : Bool). askTree W (asking-at m 0) (cond b (getD (s .path) (m + 1) 0) (s .anchor)) (cond b m (s .depth)) (ofCertificate (getD (s .path) (cond b m (s .depth)) 0))) inside
+                  ∙ ap (λ (n : ℕ). askTree W (asking-at m 0) (getD (s .path) n 0) m (ofCertificate (getD (s .path) m 0))) up
+                  ∙ ap (λ (n : ℕ). askTree W (asking-at m 0) (certAt s) n (ofCertificate (getD (s .path) n 0))) e
+                  ∙ through-asks W (clearTree W s) (wrongTree W s) (certAt s) _ _ (s .signatures) z
+                  ∙ goes-on _ _ _ (subst (λ (l : List Stage). Skips rest′ l) list h);
+              deep = deep;
+              most = omega (arith, its);
+              kept = record { path = refl; next = refl; depth = refl };
+            }
 
     pub vetoed : (x b : ℕ) → s .phase ≡ Offer → (x ≡ 0 → ⊥) → b ≡ worseOf (s .best) x → Heard W s (walking b) (give (treeOf W s) x) (effort W s)
     unfolding phaseTree phaseEffort give
@@ -344,3 +386,12 @@ module _ (W : World) where
         by Found w k o = refl
         by (Refused e) w k o = refl
         by (Spent e) w k o = refl
+
+-- ---- a world in which nothing comes after a signature
+module _ (W : World) (plain : (key what : ℕ) (below : Path) (k : ℕ) → W .after key what below k ≡ []) (s : State) where
+  pub bare-next : Skips (restAt W s (keyAt s) (placeOf s) (s .list)) (staged W (certAt s) (lower (s .path) (placeOf s)))
+  bare-next = subst (λ (l : List Stage). Skips (l ++ staged W (certAt s) (lower (s .path) (placeOf s))) (staged W (certAt s) (lower (s .path) (placeOf s)))) (sym (plain (keyAt s) (certAt s) (lower (s .path) (placeOf s)) (s .list))) now
+
+  pub bare-clear : placeOf s ≡ 0 → Skips (restAt W s (keyAt s) (placeOf s) (s .list)) []
+  unfolding staged lower
+  bare-clear z = subst (λ (n : ℕ). Skips (restAt W s (keyAt s) (placeOf s) (s .list)) (staged W (getD (s .path) n 0) (lower (s .path) n))) z bare-next

@@ -1,11 +1,12 @@
 -- The clauses of the run, each under the test that leads to it. Assumes nothing.
 use Prim.Native.Nat.{ℕ, zero, suc, _+_, _-_, _≤_, _<_}
-use mathlib.Core.Path.{_≡_, refl, sym, ap}
+use mathlib.Core.Path.{_≡_, refl, sym, ap, _∙_}
 use mathlib.Core.List.{List, _∷_}
 use native.Mathlib.Omega.{arith}
 use borrow.Author.Tests.{lt-ltb, le-ltb}
 use Rattle.refusal.specs.Refusals.{maximumSignatureChecksExceeded, maximumPathBuildCallsExceeded, maximumNameConstraintComparisonsExceeded}
-use Rattle.dialogue.specs.Model.{Path, Stage, question, World, Event, extension, accepted, spent, Tree, done, ask, offer, unless, through, conclude, run}
+use Rattle.dialogue.specs.Log.{What}
+use Rattle.dialogue.specs.Model.{Path, Stage, question, finding, World, Event, extension, accepted, spent, Tree, done, ask, offer, unless, through, conclude, run}
 use Rattle.dialogue.specs.Work.{paid}
 
 pub unless-refused : (t : Tree) (f : ℕ → Tree) (e : ℕ) → (e ≡ 0 → ⊥) → unless e t f ≡ f e
@@ -17,7 +18,22 @@ unfolding paid
 paid-extension es zero h = absurd (h refl)
 paid-extension es (suc b) h = let e : suc b - 1 ≡ b = omega arith in ap (λ (n : ℕ). 1 + paid es n) (sym e)
 
+-- the first of the stages come to nothing against the path
+pub data Skips : List Stage → List Stage → Type 0 where
+  now : {l : List Stage} → Skips l l
+  by-check : {l k : List Stage} (e : ℕ) → e ≡ 0 → Skips l k → Skips (finding e ∷ l) k
+
 module _ (W : World) where
+  pub through-skips : (go : ℕ → Tree) (stop : ℕ → ℕ → Tree) (s : ℕ) {l k : List Stage} → Skips l k → through W go stop l s ≡ through W go stop k s
+  unfolding through
+  through-skips go stop s now = refl
+  through-skips go stop s (by-check {l = l} e z h) = ap (λ (n : ℕ). through W go stop (finding n ∷ l) s) z ∙ through-skips go stop s h
+
+  pub through-found : (go : ℕ → Tree) (stop : ℕ → ℕ → Tree) (s e : ℕ) (l : List Stage) → (e ≡ 0 → ⊥) → through W go stop (finding e ∷ l) s ≡ stop e s
+  unfolding through
+  through-found go stop s zero l z = absurd (z refl)
+  through-found go stop s (suc e) l z = refl
+
   pub run-extension : (es : List Event) (s b n e : ℕ) → (b ≡ 0 → ⊥) → run W es s (b - 1) n e ≡ run W (extension ∷ es) s b n e
   unfolding run
   run-extension es s zero n e h = absurd (h refl)
@@ -27,7 +43,7 @@ module _ (W : World) where
   unfolding run
   run-no-extension es s b n e h = ap (λ (i : ℕ). run W (extension ∷ es) s i n e) h
 
-  module _ (go : ℕ → Tree) (stop : ℕ → ℕ → Tree) (key what : ℕ) (stages : List Stage) (s : ℕ) where
+  module _ (go : ℕ → Tree) (stop : ℕ → ℕ → Tree) (key : ℕ) (what : What) (stages : List Stage) (s : ℕ) where
     pub through-asks : (s ≡ 0 → ⊥) → ask key what (λ a. unless (W .reply key what a) (through W go stop stages (s - 1)) (λ x. stop x (s - 1))) ≡ through W go stop (question key what ∷ stages) s
     unfolding through
     through-asks h = by s h

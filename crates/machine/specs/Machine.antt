@@ -1,10 +1,10 @@
 -- What a state of the machine stands for: the tree of questions that is left.
-use Prim.Native.Nat.{ℕ, suc, _+_, _-_, _*_, _≤_, _<_}
+use Prim.Native.Nat.{ℕ, zero, suc, _+_, _-_, _≤_, _<_}
 use mathlib.Core.Path.{_≡_}
 use mathlib.Core.Bool.{cond}
 use mathlib.Core.List.{List, [], _∷_, _++_}
 use mathlib.Core.Logic.{_⊎_}
-use lib.Dec.{ltb}
+use lib.Dec.{ltb, eqb}
 use lib.ListN.{getD, set}
 use Rattle.refusal.specs.Refusals.{unknownIssuer}
 use Rattle.refusal.specs.Model.{worseOf}
@@ -12,7 +12,8 @@ use Rattle.lent.specs.Lent.{mostIntermediates, lower, pre}
 use Rattle.machine.specs.declared.State.{State}
 use Rattle.machine.specs.declared.Phase.{Phase}
 use Rattle.machine.specs.declared.Phase.the-variants.{Walk, Ask, Offer, Found, Refused, Spent}
-use Rattle.dialogue.specs.Model.{Path, World, signatures, Event, extension, try, accepted, refused, spent, Tree, done, ask, offer, unless, enter, through, conclude, run, search}
+use Rattle.dialogue.specs.Log.{What, ofCertificate, ofList}
+use Rattle.dialogue.specs.Model.{Path, Stage, World, staged, Event, extension, try, accepted, refused, spent, Tree, done, ask, offer, unless, enter, through, conclude, run, search}
 use Rattle.dialogue.specs.Dialogue.{give, follow}
 use Rattle.dialogue.specs.Work.{paid}
 use Rattle.machine.specs.Levels.{remaining}
@@ -41,21 +42,27 @@ placeOf s = cond (ltb (s .at) (s .depth)) (s .at) (s .depth)
 abbrev pub keyAt : State → ℕ
 keyAt s = cond (ltb (s .at) (s .depth)) (getD (s .path) (s .at + 1) 0) (s .anchor)
 
-abbrev pub whatAt : State → ℕ
-whatAt s = getD (s .path) (placeOf s) 0
+-- the certificate that a question is about, or whose list it is about
+abbrev pub certAt : State → ℕ
+certAt s = getD (s .path) (placeOf s) 0
 
--- the signatures that are left after the one at a place
-abbrev pub moreTree : World → State → ℕ → Tree
-moreTree W s place =
-    through W (clearTree W s) (wrongTree W s) (signatures (getD (s .path) place 0) (lower (s .path) place)) (s .signatures)
+abbrev pub whatAt : State → What
+whatAt s = cond (eqb (s .list) 0) (ofCertificate (certAt s)) (ofList (s .list - 1))
 
-abbrev pub askTree : World → State → ℕ → ℕ → Tree
-askTree W s key place =
-    ask key (getD (s .path) place 0) (λ a. unless (W .reply key (getD (s .path) place 0) a) (moreTree W s place) (λ x. wrongTree W s x (s .signatures)))
+-- the stages that are left after the question number `list` about the certificate at a place, under a key
+abbrev pub restAt : World → State → ℕ → ℕ → ℕ → List Stage
+restAt W s key place list = W .after key (getD (s .path) place 0) (lower (s .path) place) list ++ staged W (getD (s .path) place 0) (lower (s .path) place)
+
+abbrev pub moreTree : World → State → ℕ → ℕ → Tree
+moreTree W s key place = through W (clearTree W s) (wrongTree W s) (restAt W s key place (s .list)) (s .signatures)
+
+abbrev pub askTree : World → State → ℕ → ℕ → What → Tree
+askTree W s key place what =
+    ask key what (λ a. unless (W .reply key what a) (moreTree W s key place) (λ x. wrongTree W s x (s .signatures)))
 
 unfoldable pub phaseTree : World → State → Phase → Tree
 phaseTree W s Walk = onward W s (s .signatures) (s .comparisons) (s .best)
-phaseTree W s Ask = askTree W s (keyAt s) (placeOf s)
+phaseTree W s Ask = askTree W s (keyAt s) (placeOf s) (whatAt s)
 phaseTree W s Offer = offer (s .anchor) (here s) (λ a. unless a (done (accepted (s .anchor) (here s))) (λ x. wrongTree W s x (s .signatures)))
 phaseTree W s Found = done (accepted (s .anchor) (here s))
 phaseTree W s (Refused e) = done (refused e)
@@ -119,23 +126,24 @@ abbrev pub passed : State → List ℕ
 passed s = set (s .next) (s .depth) (following s + 1)
 
 abbrev pub stepped : State → State
-stepped s = record { path = s .path; next = passed s; depth = s .depth; at = s .at; anchor = s .anchor; signatures = s .signatures; extensions = s .extensions; comparisons = s .comparisons; best = s .best; phase = s .phase }
+stepped s = record { path = s .path; next = passed s; depth = s .depth; at = s .at; list = s .list; anchor = s .anchor; signatures = s .signatures; extensions = s .extensions; comparisons = s .comparisons; best = s .best; phase = s .phase }
 
 -- a state with one more refusal noted
 abbrev pub noting : State → ℕ → State
-noting s x = record { path = s .path; next = s .next; depth = s .depth; at = s .at; anchor = s .anchor; signatures = s .signatures; extensions = s .extensions; comparisons = s .comparisons; best = worseOf (s .best) x; phase = s .phase }
+noting s x = record { path = s .path; next = s .next; depth = s .depth; at = s .at; list = s .list; anchor = s .anchor; signatures = s .signatures; extensions = s .extensions; comparisons = s .comparisons; best = worseOf (s .best) x; phase = s .phase }
 
--- one move: the search is over at the lowest level; a level is left; the next candidate is looked at, and stays below or comes on top
-pub data One (s r : State) : Type 0 where
-  ends : Kept s r → s .depth ≡ 0 → r .phase ≡ Refused (s .best) → One s r
-  leaves : r .path ≡ s .path → r .next ≡ s .next → s .depth ≡ r .depth + 1 → One s r
-  looks : r .path ≡ s .path → r .next ≡ passed s → r .depth ≡ s .depth → One s r
-  pushes : r .path ≡ set (s .path) (s .depth + 1) (following s) → r .next ≡ set (passed s) (s .depth + 1) 0 → r .depth ≡ s .depth + 1 → One s r
+-- one move. Every candidate of the level was looked at: the search is over at the lowest level, and any other is left. Or the next one is looked at, and
+-- stays below or comes on top
+pub data One (W : World) (s r : State) : Type 0 where
+  ends : W .candidates ≤ following s → Kept s r → s .depth ≡ 0 → r .phase ≡ Refused (s .best) → One W s r
+  leaves : W .candidates ≤ following s → r .path ≡ s .path → r .next ≡ s .next → s .depth ≡ r .depth + 1 → One W s r
+  looks : following s < W .candidates → r .path ≡ s .path → r .next ≡ passed s → r .depth ≡ s .depth → One W s r
+  pushes : following s < W .candidates → r .path ≡ set (s .path) (s .depth + 1) (following s) → r .next ≡ set (passed s) (s .depth + 1) 0 → r .depth ≡ s .depth + 1 → One W s r
 
 -- a move: r stands for what s stands for, with fewer events left. So a walk ends, and all moves of a run are at most the events of the search
 pub record Moved (W : World) (s r : State) : Type 0 where
   pub walks : s .phase ≡ Walk
-  pub one : One s r
+  pub one : One W s r
   pub same : treeOf W r ≡ treeOf W s
   pub deep : r .depth < 7
   pub less : effort W r < effort W s
@@ -180,13 +188,19 @@ pub record Halted (W : World) (s r : State) (said : List ℕ) : Type 0 where
 abbrev pub Answered : World → State → ℕ → State → Type 0
 Answered W s a r = s .depth < 7 → (s .phase ≡ Walk → ⊥) → Halted W s r (a ∷ [])
 
--- the state at the start, in a phase: Walk, or Refused where the end entity's own checks refuse it
-abbrev pub begun : ℕ → ℕ → ℕ → ℕ → Phase → State
-begun end s b n phase = record {
+-- the phase at the start: Walk, or Refused where the end entity's own checks refuse it
+unfoldable pub firstPhase : ℕ → Phase
+firstPhase zero = Walk
+firstPhase (suc e) = Refused (worseOf unknownIssuer (suc e))
+
+-- the state at the start, in a phase; and in the phase that it has
+abbrev pub begunIn : ℕ → ℕ → ℕ → ℕ → Phase → State
+begunIn end s b n phase = record {
   path = end ∷ 0 ∷ 0 ∷ 0 ∷ 0 ∷ 0 ∷ 0 ∷ [];
   next = 0 ∷ 0 ∷ 0 ∷ 0 ∷ 0 ∷ 0 ∷ 0 ∷ [];
   depth = 0;
   at = 0;
+  list = 0;
   anchor = 0;
   signatures = s;
   extensions = b;
@@ -195,14 +209,14 @@ begun end s b n phase = record {
   phase = phase;
 }
 
--- the machine at its first question or at the end: the tree of the whole search, at most (candidates + 1)(extensions + 1) events, and a run that came
--- here from the start
-pub record Started (W : World) (end s b n : ℕ) (r : State) : Type 0 where
-  pub same : treeOf W r ≡ search W end s b n
+abbrev pub begun : World → ℕ → ℕ → ℕ → ℕ → State
+begun W end s b n = begunIn end s b n (firstPhase (W .check (end ∷ [])))
+
+-- the search for a path to `end` is at r after these answers: it asks or has ended, stands for what follows them, and went there by single moves from
+-- the start
+pub record Came (W : World) (end s b n : ℕ) (said : List ℕ) (r : State) : Type 0 where
+  pub same : treeOf W r ≡ follow (search W end s b n) said
   pub deep : r .depth < 7
-  pub most : effort W r ≤ suc (W .candidates) * suc b
   pub halts : r .phase ≡ Walk → ⊥
-  pub phase : Phase
-  pub begins : Stands W (begun end s b n phase) (search W end s b n) (suc (W .candidates) * suc b)
   pub moves : ℕ
-  pub ran : Ran W (begun end s b n phase) r [] moves
+  pub ran : Ran W (begun W end s b n) r said moves

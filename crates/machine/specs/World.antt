@@ -14,11 +14,12 @@ use Rattle.rows.specs.Model.{outlined}
 use Rattle.lent.specs.Lent.{certificateOf, someOf}
 use Rattle.asked.specs.Model.{replyIn, replyOf}
 use Rattle.path.specs.Model.{checkIn, checkOn}
-use Rattle.candidate.specs.Model.{verdictIn, verdictOn}
+use Rattle.candidate.specs.Model.{isFlagged, verdictIn, verdictOn}
 use Rattle.entries.specs.Tally.{Tally, clean}
 use Rattle.constraints.specs.Paths.{notedOf}
 use Rattle.constraints.specs.Model.{pathConstraintsIn, pathConstraints}
-use Rattle.dialogue.specs.Model.{Path, World, signatures}
+use Rattle.dialogue.specs.Log.{What}
+use Rattle.dialogue.specs.Model.{Path, World}
 
 -- ---- answers
 -- the refusal that an answer stands for, or none. 4 says that the key cannot be read: a general refusal, unless the key has a better
@@ -31,10 +32,9 @@ meaningOf answer =
     (cond (eqb answer 3) unsupportedSignatureAlgorithmForPublicKey (cond (eqb answer 4) badDer invalidSignatureForPublicKey)))
 
 -- ---- name constraints
--- whether an anchor has any, whose content is then in `constraints`
+-- whether an anchor has any, whose content is then in `constraints`. One that has some by its flag, and whose content is not there, is never tried
 unfoldable pub isBound : List (List ℕ) → List ℕ → ℕ → Bool
-isBound constraints bound anchor =
-    cond (ltb anchor (length bound)) (cond (eqb (getD bound anchor 0) 0) false (ltb anchor (length constraints))) false
+isBound constraints bound anchor = cond (isFlagged bound anchor) (ltb anchor (length constraints)) false
 
 unfoldable pub namesOf : List (List ℕ) → List ℕ → ℕ → List (List ℕ) → List ℕ → ℕ → Path → Tally
 namesOf issuers end anchors constraints bound anchor path =
@@ -57,9 +57,9 @@ worldOf issuers end subjects keys constraints bound distrusted time wanted deman
     let anchors = length subjects in
     record {
       candidates = anchors + length issuers;
-      verdict = verdictOn issuers end subjects keys distrusted;
+      verdict = verdictOn issuers end subjects keys constraints bound distrusted;
       check = checkOn issuers end anchors distrusted time wanted demanded;
-      stages = signatures;
+      after = λ key what below k. [];
       reply = λ key what answer. replyOf issuers end keys anchors key (meaningOf answer);
       cost = λ anchor path. namesOf issuers end anchors constraints bound anchor path .taken;
       named = λ anchor path. namesOf issuers end anchors constraints bound anchor path .refusal;
@@ -71,9 +71,9 @@ worldIn known issuers end subjects keys constraints bound distrusted time wanted
     let anchors = length subjects in
     record {
       candidates = anchors + length issuers;
-      verdict = verdictIn known issuers end subjects keys distrusted;
+      verdict = verdictIn known issuers end subjects keys constraints bound distrusted;
       check = checkIn known issuers end anchors distrusted time wanted demanded;
-      stages = signatures;
+      after = λ key what below k. [];
       reply = λ key what answer. replyIn known issuers end keys anchors key (meaningOf answer);
       cost = λ anchor path. namesIn known issuers end anchors constraints bound anchor path .taken;
       named = λ anchor path. namesIn known issuers end anchors constraints bound anchor path .refusal;
@@ -81,6 +81,7 @@ worldIn known issuers end subjects keys constraints bound distrusted time wanted
 
 -- the parts of a world that an answer is judged by
 pub record Judges (W : World) (known : ℕ → Reading) (issuers : List (List ℕ)) (end : List ℕ) (keys constraints : List (List ℕ)) (bound : List ℕ) (anchors : ℕ) : Type 0 where
-  pub reply : (key what answer : ℕ) → W .reply key what answer ≡ replyIn known issuers end keys anchors key (meaningOf answer)
+  pub after : (key what : ℕ) (below : Path) (k : ℕ) → W .after key what below k ≡ []
+  pub reply : (key : ℕ) (what : What) (answer : ℕ) → W .reply key what answer ≡ replyIn known issuers end keys anchors key (meaningOf answer)
   pub cost : (anchor : ℕ) (path : Path) → W .cost anchor path ≡ namesIn known issuers end anchors constraints bound anchor path .taken
   pub named : (anchor : ℕ) (path : Path) → W .named anchor path ≡ namesIn known issuers end anchors constraints bound anchor path .refusal

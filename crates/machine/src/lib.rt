@@ -1,6 +1,6 @@
 // The search for a path as a machine: its states, the question of each, and what they stand for.
 ghost use mathlib.Core.Path.{_≡_};
-ghost use Rattle.machine.specs.Machine.{keyAt, whatAt, placeOf};
+ghost use Rattle.machine.specs.Machine.{keyAt, certAt, placeOf};
 
 // What the machine waits for, or how it ended. Ask: whether a key signed a certificate. Offer: whether the caller is content with the path.
 // Spent: which budget is used up.
@@ -20,6 +20,8 @@ pub struct State {
     pub depth: usize,
     // the place in the path of the certificate asked about, and the anchor that is tried
     pub at: usize,
+    // 0: the question is about that certificate; else about a list, the first of which is 1
+    pub list: usize,
     pub anchor: usize,
     // what is left of the budgets, and the refusal so far
     pub signatures: u64,
@@ -33,6 +35,7 @@ pub struct State {
 pub struct Numbers {
     pub key: usize,
     pub certificate: usize,
+    pub list: usize,
 }
 
 // The place of the certificate asked about, at most the highest.
@@ -49,19 +52,22 @@ pub fn place(s: State) -> usize
 
 // The question of a state: the highest certificate is asked of the anchor's key, each other of the key of the one above it.
 pub fn asked(s: State) -> Numbers
-    ensures { λ r. ⌜ r ≡ record { key = keyAt s; certificate = whatAt s } ⌝ }
+    ensures { λ r. ⌜ r ≡ record { key = keyAt s; certificate = certAt s; list = s .list } ⌝ }
 {
     let at = s.at;
     let depth = s.depth;
     let numbers = s.path;
+    let list = s.list;
     if at < depth {
         return Numbers {
             key: lent::number_at(numbers, at + 1),
             certificate: lent::number_at(numbers, at),
+            list,
         };
     }
     Numbers {
         key: s.anchor,
         certificate: lent::number_at(numbers, depth),
+        list,
     }
 }

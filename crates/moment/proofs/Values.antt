@@ -12,7 +12,8 @@ use Rattle.der.specs.declared.Got.{Got}
 use Rattle.der.specs.declared.Got.the-variants.{Content, Refused as NoContent}
 use Rattle.der.specs.declared.Read.{Read}
 use Rattle.der.specs.declared.Read.the-variants.{Value, Refused as Unread}
-use Rattle.der.specs.Model.{LIMIT, readValue, ofTag, expectAt, onContent}
+use Rattle.der.specs.Places.{LIMIT}
+use Rattle.der.specs.Model.{readValue, ofTag, expectAt, onContent}
 use Rattle.der.proofs.Laws.{tests, expect-value, value-expect}
 use Rattle.der.proofs.Invert.{either, value-inv}
 use Rattle.moment.specs.declared.Time.{Time}

@@ -43,7 +43,7 @@ pub record Date : Type 0 where
   pub minute : ℕ
   pub second : ℕ
 
--- a date that the calendar has, at a time that the clock shows; a leap second has no number in the count of seconds
+-- a date that the calendar has, at a time that the clock shows; a leap second has no number in the count of seconds (stricter, D52)
 pub record Real (d : Date) : Type 0 where
   pub month-first : 1 ≤ d .month
   pub month-last : d .month ≤ 12

@@ -1,3 +1,5 @@
 pub mod Laws
 pub mod Rows
+pub mod Once
 pub mod Wanted
+pub mod Differences

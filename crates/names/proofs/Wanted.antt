@@ -5,7 +5,6 @@ use mathlib.Core.List.{List, [], _∷_, _++_, append-assoc}
 use mathlib.Core.Bool.{Bool, true, false, cond}
 use mathlib.Core.Logic.{_⊎_, inl, inr, ⊎-elim, _↔_}
 use lib.ListN.{length}
-use lib.Seq.{take-length}
 use lib.Dec.{ltb, eqb}
 use native.Mathlib.Omega.{arith}
 use borrow.Author.Tests.{eqb-true, ltb-true, ltb-false, lt-ltb}
@@ -18,7 +17,7 @@ use Rattle.der.specs.X690.{encoding}
 use Rattle.der.specs.Loop.{run, walk}
 use Rattle.der.proofs.Invert.{peel, either}
 use Rattle.parts.proofs.Equal.{same-yes, same-equal}
-use Rattle.der.proofs.Parts.{part-length, part-none}
+use Rattle.der.proofs.Parts.{part-length, part-none, part-whole}
 use Rattle.dns.specs.declared.Answer.{Answer}
 use Rattle.dns.specs.declared.Answer.the-variants.{Yes, No, Refused as RefusedFor}
 use Rattle.names.specs.declared.general.Name.{Name}
@@ -246,21 +245,17 @@ unfolding goodForDns
 dns-malformed s from to wanted e = rw (wanted-valid wanted, e)
 
 -- ---- an address
-all-of : (h : List ℕ) → part h 0 (length h) ≡ h
-unfolding part
-all-of h = let z : length h - 0 ≡ length h = omega arith in rw z (take-length h)
-
 address-sound : (p q : List ℕ) → sameAddress p q ≡ true → ((length p ≡ 4) ⊎ (length p ≡ 16)) × (p ≡ q)
 unfolding sameAddress
 address-sound p q e =
     let k = peel (neither (length p) 4 16) e (λ h. true-false h refl) in
     let y = same-yes p 0 (length p) q 0 (length q) (k .1) in
-    (neither-false (length p) 4 16 (k .0), sym (all-of p) ∙ y .4 ∙ all-of q)
+    (neither-false (length p) 4 16 (k .0), sym (part-whole p) ∙ y .4 ∙ part-whole q)
 
 address-complete : (p q : List ℕ) → (length p ≡ 4) ⊎ (length p ≡ 16) → p ≡ q → sameAddress p q ≡ true
 unfolding sameAddress
 address-complete p q s e =
-    rw (either-size (length p) 4 16 s) (same-equal p 0 (length p) q 0 (length q) (omega arith) (omega arith) (omega arith) (omega arith) (all-of p ∙ e ∙ sym (all-of q)))
+    rw (either-size (length p) 4 16 s) (same-equal p 0 (length p) q 0 (length q) (omega arith) (omega arith) (omega arith) (omega arith) (part-whole p ∙ e ∙ sym (part-whole q)))
 
 module _ (wanted : List ℕ) where
   ip-sound : (n : General) → fits (n .kind) (n .content) 135 wanted ≡ true → ForIp wanted n

@@ -1,2 +1,3 @@
 pub mod General
+pub mod Conforming
 pub mod Model

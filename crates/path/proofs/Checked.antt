@@ -15,7 +15,7 @@ use Rattle.cert.specs.declared.Certificate.{Certificate}
 use Rattle.cert.specs.declared.Reading.{Reading}
 use Rattle.cert.specs.declared.Reading.the-variants.{Accepted, Refused as NoCertificate}
 use Rattle.cert.specs.Model.{readCertificate}
-use Rattle.extensions.proofs.Value.{part-whole}
+use Rattle.der.proofs.Parts.{part-whole}
 use Rattle.cert.proofs.Laws.{read-inside}
 use Rattle.cert.proofs.Refusals.{ReadingFair, reading-not, read-fair}
 use Rattle.checks.specs.Conditions.{Contents, Role}

@@ -24,7 +24,7 @@ roleOf [] = endEntity
 roleOf (n ∷ []) = endEntity
 roleOf (n ∷ (m ∷ ns)) = issuer (length ns)
 
--- 6.1.3 (a) (4): the issuer of one is the subject of the next; byte for byte, not as 7.1 compares names (stricter)
+-- 6.1.3 (a) (4): the issuer of one is the subject of the next; byte for byte, not as 7.1 compares names (stricter, D29)
 abbrev pub Chained : Contents → List ℕ → Type 0
 Chained o subject = subject ≡ o .issuer
 

@@ -5,13 +5,13 @@ use machine::Phase;
 use machine::State;
 use rows::Outlined;
 ghost use mathlib.Core.Path.{_≡_};
-ghost use mathlib.Core.List.{List, map};
+ghost use mathlib.Core.List.{List, [], map};
 ghost use Prim.Native.Nat.{ℕ, _<_};
 ghost use Rattle.rows.specs.Model.{outlined};
 ghost use Rattle.lent.specs.Lent.{readingsIn, pre, someOf};
 ghost use Rattle.entries.specs.Tally.{spend};
 ghost use Rattle.machine.specs.declared.Phase.the-variants.{Walk, Ask, Offer};
-ghost use Rattle.dialogue.specs.Model.{World};
+ghost use Rattle.dialogue.specs.Model.{Path, World};
 ghost use Rattle.dialogue.specs.Dialogue.{give};
 ghost use Rattle.machine.specs.Machine.{placeOf, keyAt, whatAt, treeOf, effort, Heard};
 ghost use Rattle.machine.specs.World.{meaningOf, isBound, constrainedAs, namesIn, Judges};
@@ -39,10 +39,7 @@ fn meaning(answer: u16) -> u16
 fn is_bound(constraints: &[&[u8]], bound: &[u8], anchor: usize) -> bool
     ensures { λ r. ⌜ r ≡ isBound (map now (now (constraints .entry))) (now (bound .entry)) anchor ⌝ }
 {
-    if anchor < bound.len() {
-        if bound[anchor] == 0 {
-            return false;
-        }
+    if candidate::is_flagged(bound, anchor) {
         return anchor < constraints.len();
     }
     false
@@ -182,7 +179,7 @@ fn settle<'a>(
 // A signature holds that is not the last: the next is asked for.
 fn ask_next(s: State, place: usize) -> State
     requires { ⌜ (s .depth < 7) × (place ≡ placeOf s) × (place ≡ 0 → ⊥) ⌝ }
-    ensures { λ r. ⌜ ((W : World) (a : ℕ) → s .phase ≡ Ask → W .reply (keyAt s) (whatAt s) a ≡ 0 → Heard W s r (give (treeOf W s) a) (effort W s)) ⌝ }
+    ensures { λ r. ⌜ ((W : World) (a : ℕ) → ((key what : ℕ) (below : Path) (k : ℕ) → W .after key what below k ≡ []) → s .phase ≡ Ask → W .reply (keyAt s) (whatAt s) a ≡ 0 → Heard W s r (give (treeOf W s) a) (effort W s)) ⌝ }
 {
     let signatures = s.signatures;
     if signatures == 0 {
@@ -193,6 +190,7 @@ fn ask_next(s: State, place: usize) -> State
     }
     State {
         at: place - 1,
+        list: 0,
         signatures: signatures - 1,
         phase: Phase::Ask,
         ..s

@@ -9,8 +9,7 @@ use Rattle.dialogue.specs.Model.{World, Tree, search}
 use Rattle.dialogue.specs.Dialogue.{give, follow}
 use Rattle.dialogue.proofs.Answers.{follow-more}
 use Rattle.machine.specs.declared.State.{State}
-use Rattle.machine.specs.Machine.{begun, Started, Answered}
-use Rattle.runs.specs.Runs.{Came}
+use Rattle.machine.specs.Machine.{begun, Came, Answered}
 
 -- one more answer
 pub take-more : (l : List ℕ) (i : ℕ) → i < length l → take (i + 1) l ≡ take i l ++ (getD l i 0 ∷ [])
@@ -19,22 +18,16 @@ take-more l i h =
     ap (λ (j : ℕ). take j l) e ∙ take-suc l i 0 h
 
 module _ (W : World) (end s b n : ℕ) where
-  pub going : (r : State) → Started W end s b n r → Came W end s b n [] r
-  unfolding follow
-  going r h = record { same = h .same; deep = h .deep; halts = h .halts; phase = h .phase; begins = h .begins; moves = h .moves; ran = h .ran }
-
   pub goes-on : (said then : List ℕ) (u r : State) (a : ℕ) → then ≡ said ++ (a ∷ []) → Came W end s b n said u
       → Answered W u a r → Came W end s b n then r
   unfolding follow
   goes-on said then u r a e g h =
       let k = h (g .deep) (g .halts) in
-      let m = k .ran (begun end s b n (g .phase)) said (g .moves) (g .ran) in
+      let m = k .ran (begun W end s b n) said (g .moves) (g .ran) in
       subst (λ (l : List ℕ). Came W end s b n l r) (sym e) record {
         same = k .same ∙ ap (λ (t : Tree). give t a) (g .same) ∙ sym (follow-more (search W end s b n) said a);
         deep = k .deep;
         halts = k .halts;
-        phase = g .phase;
-        begins = g .begins;
         moves = m .0;
         ran = m .1;
       }

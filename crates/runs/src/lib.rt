@@ -4,8 +4,8 @@ ghost use mathlib.Core.List.{map};
 ghost use lib.ListN.{length};
 ghost use Prim.Native.Nat.{_+_};
 ghost use Rattle.lent.specs.Lent.{readingsIn};
+ghost use Rattle.machine.specs.Machine.{Came};
 ghost use Rattle.machine.specs.World.{worldIn};
-ghost use Rattle.runs.specs.Runs.{Came};
 
 // The state that the answers, one after the other, lead to.
 pub fn run<'a>(

@@ -2,11 +2,11 @@
 use lent::MOST_INTERMEDIATES;
 use machine::Phase;
 use machine::State;
-ghost use mathlib.Core.List.{map};
+ghost use mathlib.Core.List.{[], map};
 ghost use lib.ListN.{length};
 ghost use Prim.Native.Nat.{_+_};
 ghost use Rattle.lent.specs.Lent.{readingsIn};
-ghost use Rattle.machine.specs.Machine.{Answered, Started};
+ghost use Rattle.machine.specs.Machine.{Answered, Came};
 ghost use Rattle.machine.specs.World.{worldIn};
 
 mod walk;
@@ -56,6 +56,8 @@ pub fn answer<'a>(
             end,
             subjects,
             keys,
+            constraints,
+            bound,
             distrusted,
             time,
             wanted,
@@ -83,7 +85,7 @@ pub fn start<'a>(
     extensions: u64,
     comparisons: u64,
 ) -> State
-    ensures { λ r. ⌜ Started (worldIn (readingsIn (now (table .entry)) (map now (now (issuers .entry))) (now (end .entry)) (length (now (subjects .entry)))) (map now (now (issuers .entry))) (now (end .entry)) (map now (now (subjects .entry))) (map now (now (keys .entry))) (map now (now (constraints .entry))) (now (bound .entry)) (map now (now (distrusted .entry))) time (now (wanted .entry)) demanded) (length (now (subjects .entry)) + length (now (issuers .entry))) signatures extensions comparisons r ⌝ }
+    ensures { λ r. ⌜ Came (worldIn (readingsIn (now (table .entry)) (map now (now (issuers .entry))) (now (end .entry)) (length (now (subjects .entry)))) (map now (now (issuers .entry))) (now (end .entry)) (map now (now (subjects .entry))) (map now (now (keys .entry))) (map now (now (constraints .entry))) (now (bound .entry)) (map now (now (distrusted .entry))) time (now (wanted .entry)) demanded) (length (now (subjects .entry)) + length (now (issuers .entry))) signatures extensions comparisons [] r ⌝ }
 {
     let anchors = subjects.len();
     let numbers = [anchors + issuers.len(), 0, 0, 0, 0, 0, 0];
@@ -92,6 +94,7 @@ pub fn start<'a>(
         next: [0usize; 7],
         depth: 0,
         at: 0,
+        list: 0,
         anchor: 0,
         signatures,
         extensions,
@@ -124,6 +127,8 @@ pub fn start<'a>(
         end,
         subjects,
         keys,
+        constraints,
+        bound,
         distrusted,
         time,
         wanted,

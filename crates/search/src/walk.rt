@@ -3,8 +3,8 @@ use candidate::Verdict;
 use machine::Phase;
 use machine::State;
 ghost use mathlib.Core.Path.{_≡_};
-ghost use mathlib.Core.List.{List, [], map};
-ghost use Prim.Native.Nat.{ℕ, _≤_, _<_};
+ghost use mathlib.Core.List.{[], map};
+ghost use Prim.Native.Nat.{_≤_, _<_};
 ghost use lib.ListN.{length};
 ghost use Rattle.lent.specs.Lent.{readingsIn};
 ghost use Rattle.machine.specs.declared.Phase.the-variants.{Walk};
@@ -47,6 +47,8 @@ fn move_on<'a>(
     end: &'a [u8],
     subjects: &[&[u8]],
     keys: &[&[u8]],
+    constraints: &[&[u8]],
+    bound: &[u8],
     distrusted: &[&[u8]],
     time: u64,
     wanted: &[u8],
@@ -54,7 +56,7 @@ fn move_on<'a>(
     s: State,
 ) -> State
     requires { ⌜ (s .depth < 7) × (s .phase ≡ Walk) ⌝ }
-    ensures { λ r. ⌜ ((C : List (List ℕ)) (B : List ℕ) → Moved (worldIn (readingsIn (now (table .entry)) (map now (now (issuers .entry))) (now (end .entry)) (length (now (subjects .entry)))) (map now (now (issuers .entry))) (now (end .entry)) (map now (now (subjects .entry))) (map now (now (keys .entry))) C B (map now (now (distrusted .entry))) time (now (wanted .entry)) demanded) s r) ⌝ }
+    ensures { λ r. ⌜ Moved (worldIn (readingsIn (now (table .entry)) (map now (now (issuers .entry))) (now (end .entry)) (length (now (subjects .entry)))) (map now (now (issuers .entry))) (now (end .entry)) (map now (now (subjects .entry))) (map now (now (keys .entry))) (map now (now (constraints .entry))) (now (bound .entry)) (map now (now (distrusted .entry))) time (now (wanted .entry)) demanded) s r ⌝ }
 {
     let depth = s.depth;
     let numbers = s.path;
@@ -72,6 +74,8 @@ fn move_on<'a>(
         end,
         subjects,
         keys,
+        constraints,
+        bound,
         distrusted,
         numbers,
         depth,
@@ -101,6 +105,8 @@ pub fn advance<'a>(
     end: &'a [u8],
     subjects: &[&[u8]],
     keys: &[&[u8]],
+    constraints: &[&[u8]],
+    bound: &[u8],
     distrusted: &[&[u8]],
     time: u64,
     wanted: &[u8],
@@ -108,7 +114,7 @@ pub fn advance<'a>(
     s: State,
 ) -> State
     requires { ⌜ s .depth < 7 ⌝ }
-    ensures { λ r. ⌜ ((C : List (List ℕ)) (B : List ℕ) → Halted (worldIn (readingsIn (now (table .entry)) (map now (now (issuers .entry))) (now (end .entry)) (length (now (subjects .entry)))) (map now (now (issuers .entry))) (now (end .entry)) (map now (now (subjects .entry))) (map now (now (keys .entry))) C B (map now (now (distrusted .entry))) time (now (wanted .entry)) demanded) s r []) ⌝ }
+    ensures { λ r. ⌜ Halted (worldIn (readingsIn (now (table .entry)) (map now (now (issuers .entry))) (now (end .entry)) (length (now (subjects .entry)))) (map now (now (issuers .entry))) (now (end .entry)) (map now (now (subjects .entry))) (map now (now (keys .entry))) (map now (now (constraints .entry))) (now (bound .entry)) (map now (now (distrusted .entry))) time (now (wanted .entry)) demanded) s r [] ⌝ }
 {
     let mut t = s;
     loop {
@@ -120,6 +126,8 @@ pub fn advance<'a>(
                 end,
                 subjects,
                 keys,
+                constraints,
+                bound,
                 distrusted,
                 time,
                 wanted,

@@ -1,4 +1,9 @@
 pub mod Laws
 pub mod Refusals
 pub mod Accepted
-pub mod EachKind
+pub mod Generals
+pub mod Exact
+pub mod ExactLists
+pub mod Fields
+pub mod NeverWeaker
+pub mod Once

@@ -1,4 +1,5 @@
 pub mod Rfc5280Names
+pub mod ExactNames
 pub mod Noted
 pub mod Model
 pub mod Presents

@@ -10,9 +10,7 @@ use Rattle.cert.specs.Model.{readCertificate}
 use Rattle.names.specs.General.{General, Named, encoded, Each}
 use Rattle.entries.specs.Kinds.{directoryName}
 
--- the names of a certificate: its alternative names, and its subject, which is a directory name. THE ONE EXCEPTION: 4.2.1.10 has entries of
--- kind rfc822Name apply to a mail address in the subject too, where there is no alternative name. Nothing here looks into a subject, so that
--- such an address is not among the names; docs/DIFFERENCES.md has a certificate that shows it.
+-- the names of a certificate: its alternative names, and its subject, which is a directory name
 pub record Presents (t : List ℕ) (names : List General) : Type 0 where
   pub c : Certificate
   pub read : readCertificate t true ≡ Accepted c

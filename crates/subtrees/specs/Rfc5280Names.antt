@@ -5,10 +5,10 @@ use mathlib.Core.List.{List, [], _∷_, _++_}
 use mathlib.Core.Bool.{true}
 use mathlib.Core.Logic.{_⊎_}
 use Rattle.der.specs.X690.{encoding}
-use Rattle.labels.specs.Names.{Labels, labels, presentedName}
+use Rattle.labels.specs.Names.{Labels, labels, presentedName, entryName}
 use Rattle.dns.specs.Names.{StandsFor, InSubtree}
 use Rattle.names.specs.General.{dnsName, ipAddress, General, Named, Each}
-use Rattle.ip.specs.Addresses.{InSubnet}
+use Rattle.ip.specs.Addresses.{InSubnet, IsAddress, IsEntry, InMasked}
 
 -- ---- 4.2.1.10: the extension
 -- GeneralSubtrees: of each the base alone, since minimum is 0, which DER leaves out, and maximum is absent
@@ -50,7 +50,7 @@ unfoldable pub In : Others → General → Meaning → Type 0
 In other e (host ls) = InSubtree (labels (e .content)) ls
 In other e (value v) = ((e .kind ≡ ipAddress) × InSubnet v (e .content)) ⊎ ((e .kind ≡ ipAddress → ⊥) × other (e .kind) v (e .content))
 
--- ---- 6.1.3 (b) and (c), for one issuer's lists; by 6.1.4 (g) the lists of several issuers are met just if those of each are
+-- ---- lists of names and entries
 unfoldable pub Some : (General → Type 0) → List General → Type 0
 Some P [] = ⊥
 Some P (n ∷ ns) = P n ⊎ Some P ns
@@ -58,10 +58,20 @@ Some P (n ∷ ns) = P n ⊎ Some P ns
 abbrev pub OfKind : General → General → Type 0
 OfKind n e = e .kind ≡ n .kind
 
+-- to be touched by an excluded entry: `In`, but with a mask as it stands. (A permitted one must have a mask that is ones and then zeros: `In`)
+unfoldable pub Touches : Others → General → Meaning → Type 0
+Touches other e (host ls) = InSubtree (labels (e .content)) ls
+Touches other e (value v) = ((e .kind ≡ ipAddress) × InMasked v (e .content)) ⊎ ((e .kind ≡ ipAddress → ⊥) × other (e .kind) v (e .content))
+
+-- a name and an entry of its kind that are compared have their form: DNS names that of 4.2.1.6 and 4.2.1.10, addresses their lengths
+pub record Formed (n e : General) : Type 0 where
+  pub dns : n .kind ≡ dnsName → (presentedName (n .content) ≡ true) × (entryName (e .content) ≡ true)
+  pub ip : n .kind ≡ ipAddress → IsAddress (n .content) × IsEntry (e .content)
+
+-- ---- 6.1.3 (b) and (c), for one issuer's lists; by 6.1.4 (g) the lists of several issuers are met just if those of each are
 pub record Conforms (other : Others) (permitted excluded : List General) (n : General) : Type 0 where
-  -- (b), with 6.1.4 (g) (1): if there are permitted entries of the kind, in one of them
+  -- (b), with 6.1.4 (g) (1): if there are permitted entries of the kind, all that it stands for is in one of them
   pub within : (m : Meaning) → Means n m → Some (OfKind n) permitted → Some (λ e. OfKind n e × In other e m) permitted
-  -- (c): in no excluded one
-  pub without : (m : Meaning) → Means n m → Each (λ e. OfKind n e → In other e m → ⊥) excluded
-  -- a DNS name that is compared with an entry has the form of one
-  pub formed : n .kind ≡ dnsName → Some (OfKind n) permitted ⊎ Some (OfKind n) excluded → presentedName (n .content) ≡ true
+  -- (c): nothing that it stands for is touched by an excluded one
+  pub without : (m : Meaning) → Means n m → Each (λ e. OfKind n e → Touches other e m → ⊥) excluded
+  pub formed : Each (λ e. OfKind n e → Formed n e) permitted × Each (λ e. OfKind n e → Formed n e) excluded

@@ -4,16 +4,16 @@ use machine::Phase;
 use machine::State;
 ghost use mathlib.Core.Path.{_≡_};
 ghost use mathlib.Core.List.{map};
-ghost use Prim.Native.Nat.{ℕ, _<_};
+ghost use Prim.Native.Nat.{_<_};
 ghost use Rattle.lent.specs.Lent.{readingsIn};
 ghost use Rattle.path.specs.Model.{checkIn};
 ghost use Rattle.machine.specs.declared.Phase.the-variants.{Walk};
-ghost use Rattle.dialogue.specs.Model.{Path, World, signatures};
+ghost use Rattle.dialogue.specs.Model.{Path, World};
 ghost use Rattle.machine.specs.Machine.{still, tryTree, extendTree, extendStill, Heard, Grew};
 
 // Anchor i is tried: the first of its signatures is asked for.
 pub fn anchor(s: State, i: usize) -> State
-    ensures { λ r. ⌜ (s .depth < 7 → (W : World) → ((k : ℕ) (p : Path) → W .stages k p ≡ signatures k p) → Heard W s r (tryTree W s i) (still W s)) ⌝ }
+    ensures { λ r. ⌜ (s .depth < 7 → (W : World) → Heard W s r (tryTree W s i) (still W s)) ⌝ }
 {
     let signatures = s.signatures;
     let depth = s.depth;
@@ -25,6 +25,7 @@ pub fn anchor(s: State, i: usize) -> State
     }
     State {
         at: depth,
+        list: 0,
         anchor: i,
         signatures: signatures - 1,
         phase: Phase::Ask,

@@ -15,9 +15,9 @@ use Rattle.der.specs.declared.Got.{Got}
 use Rattle.der.specs.declared.Got.the-variants.{Content, Refused as NoContent}
 use Rattle.values.specs.declared.Truth.the-variants.{Is as Said, Refused as NoTruth}
 use Rattle.values.specs.declared.Small.the-variants.{Number, Refused as NoNumber}
-use Rattle.der.specs.Places.{Bytes, part}
+use Rattle.der.specs.Places.{Bytes, part, LIMIT}
 use Rattle.der.specs.X690.{encoding, truth, valueOf, Natural}
-use Rattle.der.specs.Model.{LIMIT, highTag, expectAt, onContent}
+use Rattle.der.specs.Model.{highTag, expectAt, onContent}
 use Rattle.values.specs.Model.{onlyByte, truthIn, readBool, positiveIn, nonnegative, smallIn, readSmall}
 use Rattle.der.proofs.Laws.{tests, value-expect, lt-or-le}
 use Rattle.der.proofs.Invert.{peel, either}

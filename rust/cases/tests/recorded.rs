@@ -99,7 +99,7 @@ fn slow() {
 
 #[test]
 fn listed_differences() {
-    assert_eq!(replay("differences"), [65, 1, 0]);
+    assert_eq!(replay("differences"), [116, 1, 1]);
 }
 
 /// Thirty searches, each with exactly the budgets that it needs, with one less of each, and with none of each.

@@ -106,6 +106,7 @@ pub(crate) struct Step {
     pub next: [usize; MOST_CERTIFICATES],
     pub depth: usize,
     pub at: usize,
+    pub list: usize,
     pub anchor: usize,
     pub signatures: u64,
     pub extensions: u64,
@@ -160,11 +161,11 @@ const _: () = {
     assert!(size_of::<Bytes>() == 16);
     assert!(offset_of!(Bytes, length) == 8);
     assert!(size_of::<Row>() == 296);
-    assert!(size_of::<Step>() == 168);
+    assert!(size_of::<Step>() == 176);
     assert!(offset_of!(Step, depth) == 112);
-    assert!(offset_of!(Step, signatures) == 136);
-    assert!(offset_of!(Step, best) == 160);
-    assert!(offset_of!(Step, refusal) == 164);
+    assert!(offset_of!(Step, signatures) == 144);
+    assert!(offset_of!(Step, best) == 168);
+    assert!(offset_of!(Step, refusal) == 172);
     assert!(size_of::<Asked>() == 104);
     assert!(offset_of!(Asked, signed) == 16);
     assert!(offset_of!(Asked, key_bits) == 80);
@@ -175,6 +176,9 @@ const _: () = {
 };
 
 /// What a request lends for a whole search.
+///
+/// There are as many anchors as subjects. Where another of their lists is shorter: an anchor without a key is never used, nor is one that is `bound`
+/// by name constraints and has no entry for them; one of which `bound` says nothing has none.
 #[derive(Clone, Copy, Debug)]
 pub(crate) struct Lent<'a> {
     pub issuers: &'a [Bytes<'a>],
@@ -309,4 +313,52 @@ pub(crate) fn anchor(certificate: &[u8]) -> Trusted {
 pub(crate) fn name(end: &[u8], kind: u8, name: &[u8]) -> u16 {
     // SAFETY: the pointers of slices with their lengths.
     unsafe { pathjudge_name(end.as_ptr(), end.len(), kind, name.as_ptr(), name.len()) }
+}
+
+#[cfg(test)]
+mod tests {
+    use super::{anchor, Bytes, Lent, Row, Step, ASK, NO_NAME, REFUSED};
+    use crate::{Purpose, Refusal};
+
+    const ROOT: &[u8] = include_bytes!("../tests/chain/root.der");
+    const ISSUER: &[u8] = include_bytes!("../tests/chain/issuer.der");
+    const SERVER: &[u8] = include_bytes!("../tests/chain/server.der");
+    const BUDGET: u64 = 10;
+
+    /// The first step of a search for a path to the root, with the lists of constraints and of flags as given.
+    fn first(constraints: &[Bytes], bound: &[u8]) -> Step {
+        let root = anchor(ROOT);
+        let part = |place: super::Place| place.of(ROOT).map(Bytes::new).expect("a part of the root");
+        Lent {
+            issuers: &[Bytes::new(ISSUER)],
+            end: SERVER,
+            subjects: &[part(root.subject)],
+            keys: &[part(root.key)],
+            constraints,
+            bound,
+            distrusted: &[],
+            time: 1_700_000_000,
+            purpose: Purpose::SERVER_AUTHENTICATION.identifier,
+            demanded: false,
+            kind: NO_NAME,
+            name: &[],
+        }
+        .begin(BUDGET, BUDGET, BUDGET, &mut [Row::EMPTY; 2])
+    }
+
+    #[test]
+    fn an_anchor_without_its_name_constraints_is_not_used() {
+        let step = first(&[], &[1]);
+        assert_eq!((step.phase, step.refusal), (REFUSED, Refusal::UnknownIssuer.number()));
+        assert_eq!(step.signatures, BUDGET, "nothing is asked of its key");
+    }
+
+    #[test]
+    fn an_anchor_with_its_name_constraints_or_with_none_is_used() {
+        let empty = [Bytes::new(&[])];
+        for (constraints, bound) in [(&empty[..], &[1][..]), (&[], &[0]), (&[], &[])] {
+            let step = first(constraints, bound);
+            assert_eq!((step.phase, step.anchor), (ASK, 0), "{constraints:?} {bound:?}");
+        }
+    }
 }

@@ -131,11 +131,14 @@ impl Fuzz {
         rows
     }
 
-    /// An offer: a path of different certificates, each of which was said to be signed by the one above it, the last one by the anchor.
+    /// An offer: a path of different certificates, each of which was said to be signed by the one above it, the last one by the anchor, which lacks
+    /// neither its key nor its name constraints.
     fn offer(&mut self, lent: &Lent, step: Step, signed: &[(usize, usize)]) {
         let (anchors, certificates) = (lent.subjects.len(), step.depth + 1);
         self.deepest = self.deepest.max(step.depth);
         assert!(step.anchor < anchors);
+        assert!(step.anchor < lent.keys.len());
+        assert!(step.anchor < lent.constraints.len() || lent.bound.get(step.anchor).copied().unwrap_or(0) == 0);
         let path = &step.path[..certificates];
         assert_eq!(path[0], anchors + lent.issuers.len());
         for (place, number) in path.iter().enumerate().skip(1) {

@@ -33,7 +33,7 @@ pub struct Request<'a> {
 }
 
 impl<'a> Request<'a> {
-    /// Decides: the first path that keeps every rule, and that the caller is content with.
+    /// Decides: the first path that meets every condition and that the caller is content with. The wanted name is checked last.
     ///
     /// With more than seven intermediates [`judge_in`](Self::judge_in) is faster.
     ///

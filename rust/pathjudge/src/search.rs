@@ -28,7 +28,8 @@ pub trait Signatures {
     /// Whether the key signed the certificate.
     fn check(&mut self, question: &Question<'_>) -> Answer;
 
-    /// A path that keeps every rule: `Ok` if the caller is content with it, or the refusal with which the search goes on.
+    /// A path that meets every condition but the wanted name, which is checked after this: `Ok` if the caller is content with it, or the refusal with
+    /// which the search goes on.
     ///
     /// # Errors
     ///

@@ -8,7 +8,9 @@ use Rattle.candidate.proofs.verdict_on.Statement.{statement}
 use Rattle.candidate.proofs.verdict_on.Tie as tie
 
 returns : tie.Need-returns
-returns c = verdict-deep _ _ _ (c .before .before .args .path) (c .before .before .args .depth) _ _ _ (c .before .before .args .i) (omega arith)
+returns c =
+    let a = c .before .before .before .args in
+    verdict-deep _ _ _ (a .path) (a .depth) _ _ _ _ _ (a .i) (omega arith)
 
 number-at-requires : tie.Need-number-at-requires
 number-at-requires c κs = tt
@@ -26,7 +28,12 @@ anchor-at-requires : tie.Need-anchor-at-requires
 anchor-at-requires c κs = search needs
 
 returns-2 : tie.Need-returns-2
-returns-2 c = let arm = c .before .before .before .before in c .anchor-at .ensures ∙ verdict-anchor _ _ _ (c .before .before .before .before .before .before .before .before .before .before .before .args .path) (c .before .before .before .before .before .before .before .before .before .before .before .args .depth) _ _ _ _ (sym (length-map (c .before .before .before .before .before .before .before .before .before .before .before .args .subjects .now) now)) (omega arith) (arm .before .before .before .before .number-at .ensures) (arm .before .before .before .certificate .ensures) (sym (arm .before .before .outline .ensures) ∙ arm .c .given .1) (omega arith)
+returns-2 c =
+    let a = c .before .before .before .before .before .before .before .before .before .before .before .before .args in
+    let arm = c .before .before .before .before in
+    c .anchor-at .ensures ∙ verdict-anchor _ _ _ (a .path) (a .depth) _ _ _ _ _ _
+    (sym (length-map (a .subjects .now) now)) (omega arith) (arm .before .before .before .before .number-at .ensures) (arm .before .before .before .certificate .ensures)
+    (sym (arm .before .before .outline .ensures) ∙ arm .c .given .1) (omega arith)
 
 certificate-requires-2 : tie.Need-certificate-requires-2
 certificate-requires-2 c κs = tt
@@ -41,10 +48,20 @@ enum-known-e : tie.Need-enum-known-e
 enum-known-e c = c .match .keys2
 
 returns-3 : tie.Need-returns-3
-returns-3 c = let arm = c .before .before .before .before .before .before in c .issuer-verdict .ensures ∙ verdict-issuer _ _ _ (c .before .before .before .before .before .before .before .before .before .before .before .before .before .args .path) (c .before .before .before .before .before .before .before .before .before .before .before .before .before .args .depth) _ _ _ _ (sym (length-map (c .before .before .before .before .before .before .before .before .before .before .before .before .before .args .subjects .now) now)) (omega arith) (arm .before .before .before .before .number-at .ensures) (arm .before .before .before .certificate .ensures) (sym (arm .before .before .outline .ensures) ∙ arm .c .given .1) (omega arith) (c .before .before .certificate2 .ensures) (c .before .outline2 .ensures)
+returns-3 c =
+    let a = c .before .before .before .before .before .before .before .before .before .before .before .before .before .before .args in
+    let arm = c .before .before .before .before .before .before in
+    c .issuer-verdict .ensures ∙ verdict-issuer _ _ _ (a .path) (a .depth) _ _ _ _ _ _
+    (sym (length-map (a .subjects .now) now)) (omega arith) (arm .before .before .before .before .number-at .ensures) (arm .before .before .before .certificate .ensures)
+    (sym (arm .before .before .outline .ensures) ∙ arm .c .given .1) (omega arith) (c .before .before .certificate2 .ensures) (c .before .outline2 .ensures)
 
 returns-4 : tie.Need-returns-4
-returns-4 c = let arm = c .before in verdict-refused _ _ _ (c .before .before .before .before .before .before .before .before .args .path) (c .before .before .before .before .before .before .before .before .args .depth) _ _ _ _ (sym (length-map (c .before .before .before .before .before .before .before .before .args .subjects .now) now)) (omega arith) (arm .before .before .before .before .number-at .ensures) (arm .before .before .before .certificate .ensures) (sym (arm .before .before .outline .ensures) ∙ arm .e .given .1)
+returns-4 c =
+    let a = c .before .before .before .before .before .before .before .before .before .args in
+    let arm = c .before in
+    verdict-refused _ _ _ (a .path) (a .depth) _ _ _ _ _ _
+    (sym (length-map (a .subjects .now) now)) (omega arith) (arm .before .before .before .before .number-at .ensures) (arm .before .before .before .certificate .ensures)
+    (sym (arm .before .before .outline .ensures) ∙ arm .e .given .1)
 
 pub verdict-on-spec : {M : Type 1} → statement M
 verdict-on-spec =

@@ -18,7 +18,9 @@ shown-requires c κs = tt
 returns : tie.Need-returns
 returns c h =
     let a = c .before .before .before .before .before .before .before .args in
-    answer-at _ _ _ _ _ _ (c .before .before .state-of .ensures) (shown-held _ _ _ h _ (sym (length-map (a .issuers .now) now)) _ _ _ _ (c .shown .ensures)) (answered-held _ _ _ h _ _ _ _ _ _ _ _ _ (sym (length-map (a .subjects .now) now)) _ _ _ (c .before .answer .ensures))
+    answer-at _ _ _ _ _
+    (shown-held _ _ _ h _ (sym (length-map (a .issuers .now) now)) _ _ _ _ (c .shown .ensures))
+    (answered-held _ _ _ h _ _ _ _ _ _ _ _ _ (sym (length-map (a .subjects .now) now)) _ _ _ (rw (c .before .before .state-of .ensures) at (c .before .answer .ensures)))
 
 pub pathjudge-answer-spec : {M : Type 1} → statement M
 pathjudge-answer-spec =

@@ -3,7 +3,7 @@ use denote.Ref.{now}
 use lib.ListN.{length-map}
 use mathlib.Core.Path.{sym, _∙_}
 use borrow.Author.Needs.{needs}
-use Rattle.judge.proofs.Laws.{end-held, shown-held, started-held, counted, begin-at, unread-at}
+use Rattle.judge.proofs.Laws.{end-held, shown-held, came-held, counted, went, not-read}
 use Rattle.judge.proofs.pathjudge_begin.Statement.{statement}
 use Rattle.judge.proofs.pathjudge_begin.Tie as tie
 
@@ -35,7 +35,14 @@ returns : tie.Need-returns
 returns c =
     let a = c .before .before .before .before .before .before .before .before .before .before .before .before .before .before .before .args in
     let h = c .before .before .before .before .before .before .before .before .before .fill .ensures in
-    (h, begin-at _ _ _ (sym (end-held _ _ _ h _ (sym (length-map (a .issuers .now) now))) ∙ sym (c .before .before .before .before .before .before .reading .ensures) ∙ c .before .before .before .before .enum-told .given .1) _ _ (shown-held _ _ _ h _ (sym (length-map (a .issuers .now) now)) _ _ _ _ (c .shown .ensures)) _ (counted (a .subjects .now) (a .issuers .now)) (started-held _ _ _ h _ _ _ _ _ _ _ _ _ (sym (length-map (a .subjects .now) now)) _ _ _ _ _ (c .before .before .start .ensures)))
+    let i = sym (length-map (a .issuers .now) now) in (
+      h,
+      went _ _ _ _ _ _
+          (sym (end-held _ _ _ h _ i) ∙ sym (c .before .before .before .before .before .before .reading .ensures) ∙ c .before .before .before .before .enum-told .given .1)
+          _ (counted (a .subjects .now) (a .issuers .now))
+          (came-held _ _ _ h _ _ _ _ _ _ _ _ _ (sym (length-map (a .subjects .now) now)) _ _ _ _ _ _ (c .before .before .start .ensures))
+          (shown-held _ _ _ h _ i _ _ _ _ (c .shown .ensures)),
+    )
 
 same-length-2 : tie.Need-same-length-2
 same-length-2 c = search needs
@@ -43,8 +50,11 @@ same-length-2 c = search needs
 returns-2 : tie.Need-returns-2
 returns-2 c =
     let a = c .before .before .before .before .before .before .before .before .before .before .before .before .before .args in
-    let h = c .before .before .before .before .before .before .before .fill .ensures in
-    (h, unread-at _ _ _ (sym (end-held _ _ _ h _ (sym (length-map (a .issuers .now) now))) ∙ sym (c .before .before .before .before .reading .ensures) ∙ c .before .before .e .given .1) _ _ _ _ (c .ended .ensures))
+    let h = c .before .before .before .before .before .before .before .fill .ensures in (
+      h,
+      not-read _ _ _ _
+          (sym (end-held _ _ _ h _ (sym (length-map (a .issuers .now) now))) ∙ sym (c .before .before .before .before .reading .ensures) ∙ c .before .before .e .given .1) _ _ _ _ (c .ended .ensures),
+    )
 
 pub pathjudge-begin-spec : {M : Type 1} → statement M
 pathjudge-begin-spec =

@@ -2,7 +2,8 @@ use native.Mathlib.Omega.{arith}
 use Prim.Native.Nat.{_+_, _-_, _≤_}
 use mathlib.Core.Path.{_≡_, sym, _∙_}
 use Rattle.der.proofs.Laws.{tests, in-part, left-falls}
-use Rattle.parts.specs.Model.{sameList, sameParts}
+use Rattle.parts.specs.Lists.{sameList}
+use Rattle.parts.specs.Model.{sameParts}
 use Rattle.der.specs.Places.{part}
 use Rattle.parts.proofs.Equal.{same-parts, same-short, same-start, same-turn, same-differ, same-end, in-other}
 use Rattle.parts.proofs.same.Statement.{statement}

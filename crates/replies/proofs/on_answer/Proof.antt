@@ -54,7 +54,7 @@ returns-3 c W j =
     let s = a .s in
     let p = c .before .before .before .before .before .before .before .before .before .pre in
     let told : W .reply (keyAt s) (whatAt s) (a .answer) ≡ c .before .before .before .before .reply-for .result = j .reply (keyAt s) (whatAt s) (a .answer) ∙ replied (readingsIn (a .table .now) (map now (a .issuers .now)) (a .end .now) (a .anchors)) (map now (a .issuers .now)) (a .end .now) (map now (a .keys .now)) (a .anchors) _ _ _ (a .answer) _ (c .before .before .before .before .reply-for .ensures) (ap (λ (q : Numbers). q .key) (c .before .before .before .before .before .before .asked .ensures)) (c .before .before .before .before .before .meaning .ensures) in
-    c .ask-next .ensures W (a .answer) (p .1) (told ∙ c .before .before .before .if1 .left)
+    c .ask-next .ensures W (a .answer) (j .after) (p .1) (told ∙ c .before .before .before .if1 .left)
 
 pub on-answer-spec : {M : Type 1} → statement M
 on-answer-spec =

@@ -1,6 +1,6 @@
 -- `replies::settle` meets its contract. Assumes nothing.
 use Rattle.machine.proofs.Lent.{spent-out, spent-fits, spent-left, spent-refusal}
-use Rattle.machine.proofs.Moves.{names-out, names-refused, names-clear}
+use Rattle.machine.proofs.Moves.{names-out, names-refused, names-clear, bare-clear}
 use Rattle.machine.proofs.Names.{never-spent}
 use Rattle.machine.specs.World.{namesIn}
 use Rattle.machine.specs.Machine.{here}
@@ -24,7 +24,7 @@ returns c W K j g asks holds last =
     let x = c .before .before .before .names .result in
     let e = c .before .before .before .names .ensures in
     let n = never-spent (readingsIn (a .table .now) (map now (a .issuers .now)) (a .end .now) (a .anchors)) (map now (a .issuers .now)) (a .end .now) (a .anchors) (map now (a .constraints .now)) (a .bound .now) (s .anchor) (here s) in
-    names-out W s (c .before .before .before .before .before .before .before .pre) asks g holds last (x .left) (omega (arith, spent-out (s .comparisons) T x e n (c .before .before .if1 .taken), j .cost (s .anchor) (here s)))
+    names-out W s (c .before .before .before .before .before .before .before .pre) asks g holds (bare-clear W (j .after) s last) (x .left) (omega (arith, spent-out (s .comparisons) T x e n (c .before .before .if1 .taken), j .cost (s .anchor) (here s)))
 
 returns-2 : tie.Need-returns-2
 returns-2 c W K j g asks holds last =
@@ -35,7 +35,7 @@ returns-2 c W K j g asks holds last =
     let e = c .before .before .before .before .names .ensures in
     let n = c .before .before .before .if1 .left in
     let q = j .cost (s .anchor) (here s) in
-    names-clear W s (c .before .before .before .before .before .before .before .before .pre) asks g holds last (x .left) (omega (arith, spent-left (s .comparisons) T x e n, q)) (omega (arith, spent-fits (s .comparisons) T x e n, q))
+    names-clear W s (c .before .before .before .before .before .before .before .before .pre) asks g holds (bare-clear W (j .after) s last) (x .left) (omega (arith, spent-left (s .comparisons) T x e n, q)) (omega (arith, spent-fits (s .comparisons) T x e n, q))
     (j .named (s .anchor) (here s) ∙ spent-refusal (s .comparisons) T x e n ∙ c .before .before .if2 .taken)
 
 worse-requires : tie.Need-worse-requires
@@ -50,7 +50,7 @@ returns-3 c W K j g asks holds last =
     let e = c .before .before .before .before .before .names .ensures in
     let n = c .before .before .before .before .if1 .left in
     let q = j .cost (s .anchor) (here s) in
-    names-refused W s (c .before .before .before .before .before .before .before .before .before .pre) asks g holds last (x .left) (omega (arith, spent-left (s .comparisons) T x e n, q)) (omega (arith, spent-fits (s .comparisons) T x e n, q)) (x .refusal) (c .before .before .worse .result)
+    names-refused W s (c .before .before .before .before .before .before .before .before .before .pre) asks g holds (bare-clear W (j .after) s last) (x .left) (omega (arith, spent-left (s .comparisons) T x e n, q)) (omega (arith, spent-fits (s .comparisons) T x e n, q)) (x .refusal) (c .before .before .worse .result)
     (j .named (s .anchor) (here s) ∙ spent-refusal (s .comparisons) T x e n) (c .before .before .before .if2 .left) (c .before .before .worse .ensures)
 
 pub settle-spec : {M : Type 1} → statement M

@@ -7,9 +7,9 @@ use denote.Ref.{now}
 use native.Mathlib.Omega.{arith}
 use borrow.Author.Needs.{needs}
 use Rattle.lent.specs.Lent.{readingsIn}
+use Rattle.machine.specs.Machine.{Came}
 use Rattle.machine.specs.World.{worldIn}
-use Rattle.runs.specs.Runs.{Came}
-use Rattle.runs.proofs.Laws.{take-more, going, goes-on, came}
+use Rattle.runs.proofs.Laws.{take-more, goes-on, came}
 use Rattle.runs.proofs.run.Statement.{statement}
 use Rattle.runs.proofs.run.Tie as tie
 
@@ -24,7 +24,7 @@ start-requires : tie.Need-start-requires Inv-loop μ-loop
 start-requires c κs = tt
 
 loop-holds : tie.Need-loop-holds Inv-loop μ-loop
-loop-holds c = (omega arith, going _ _ _ _ _ _ (c .start .ensures))
+loop-holds c = (omega arith, c .start .ensures)
 
 mul-answer : tie.Need-mul-answer Inv-loop μ-loop
 mul-answer c = search (needs, c .before .before .before .before .before .before .before .good .1 .1 .1 .1 .1 .1 .1 .1 .1 .1 .1 .1 .1 .1 .0)

@@ -44,7 +44,7 @@ returns-3 : tie.Need-returns-3
 returns-3 c deep halts =
     let a = c .before .before .before .before .before .before .before .before .before .before .args in
     let W = worldIn (readingsIn (a .table .now) (map now (a .issuers .now)) (a .end .now) (length (a .subjects .now))) (map now (a .issuers .now)) (a .end .now) (map now (a .subjects .now)) (map now (a .keys .now)) (map now (a .constraints .now)) (a .bound .now) (map now (a .distrusted .now)) (a .time) (a .wanted .now) (a .demanded) in
-    answered W (a .s) (c .before .before .before .reply .result) (c .advance .result) (a .given) (c .before .before .before .reply .ensures deep halts W (judges (readingsIn (a .table .now) (map now (a .issuers .now)) (a .end .now) (length (a .subjects .now))) (map now (a .issuers .now)) (a .end .now) (map now (a .subjects .now)) (map now (a .keys .now)) (map now (a .constraints .now)) (a .bound .now) (map now (a .distrusted .now)) (a .time) (a .wanted .now) (a .demanded) (length (a .subjects .now)) (sym (length-map (a .subjects .now) now)))) (c .advance .ensures (map now (a .constraints .now)) (a .bound .now))
+    answered W (a .s) (c .before .before .before .reply .result) (c .advance .result) (a .given) (c .before .before .before .reply .ensures deep halts W (judges (readingsIn (a .table .now) (map now (a .issuers .now)) (a .end .now) (length (a .subjects .now))) (map now (a .issuers .now)) (a .end .now) (map now (a .subjects .now)) (map now (a .keys .now)) (map now (a .constraints .now)) (a .bound .now) (map now (a .distrusted .now)) (a .time) (a .wanted .now) (a .demanded) (length (a .subjects .now)) (sym (length-map (a .subjects .now) now)))) (c .advance .ensures)
 
 returns-4 : tie.Need-returns-4
 returns-4 c deep halts =

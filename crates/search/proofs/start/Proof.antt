@@ -40,7 +40,7 @@ returns-2 c =
     let W = worldIn (readingsIn (a .table .now) (map now (a .issuers .now)) (a .end .now) (length (a .subjects .now))) (map now (a .issuers .now)) (a .end .now) (map now (a .subjects .now)) (map now (a .keys .now)) (map now (a .constraints .now)) (a .bound .now) (map now (a .distrusted .now)) (a .time) (a .wanted .now) (a .demanded) in
     let end = length (a .subjects .now) + length (a .issuers .now) in
     let checks : W .check (end ∷ []) ≡ c .before .before .check .result = ap (λ (n : ℕ). checkIn (readingsIn (a .table .now) (map now (a .issuers .now)) (a .end .now) (length (a .subjects .now))) (map now (a .issuers .now)) (a .end .now) n (map now (a .distrusted .now)) (a .time) (a .wanted .now) (a .demanded) (end ∷ [])) (length-map (a .subjects .now) now) ∙ sym (c .before .before .check .ensures) in
-    started W end (a .signatures) (a .extensions) (a .comparisons) (c .advance .result) (checks ∙ c .before .if1 .left) (c .advance .ensures (map now (a .constraints .now)) (a .bound .now))
+    started W end (a .signatures) (a .extensions) (a .comparisons) (c .advance .result) (checks ∙ c .before .if1 .left) (c .advance .ensures)
 
 pub start-spec : {M : Type 1} → statement M
 start-spec =

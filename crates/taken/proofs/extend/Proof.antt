@@ -23,8 +23,8 @@ returns c deep walks W h = extend-out W (c .before .before .before .before .befo
 worse-requires : tie.Need-worse-requires
 worse-requires c κs = search needs
 
-sub-t30 : tie.Need-sub-t30
-sub-t30 c = search needs
+sub-t31 : tie.Need-sub-t31
+sub-t31 c = search needs
 
 returns-2 : tie.Need-returns-2
 returns-2 c deep walks W h = extend-deep W (c .before .before .before .before .before .before .before .args .s) deep (c .before .before .before .before .before .before .before .args .i) walks (c .before .before .before .before .if1 .left) (c .before .before .worse .result) (c .before .before .worse .ensures) (omega (arith, deep, c .before .before .before .if2 .taken))
@@ -47,8 +47,8 @@ check-requires c κs = search needs
 worse-requires-2 : tie.Need-worse-requires-2
 worse-requires-2 c κs = search needs
 
-sub-t44 : tie.Need-sub-t44
-sub-t44 c = search needs
+sub-t46 : tie.Need-sub-t46
+sub-t46 c = search needs
 
 returns-3 : tie.Need-returns-3
 returns-3 c deep walks W h =
@@ -67,11 +67,11 @@ mul-next c = search needs
 array-write-next : tie.Need-array-write-next
 array-write-next c = search needs
 
-add-t40 : tie.Need-add-t40
-add-t40 c = search needs
+add-t42 : tie.Need-add-t42
+add-t42 c = search needs
 
-sub-t56 : tie.Need-sub-t56
-sub-t56 c = search needs
+sub-t59 : tie.Need-sub-t59
+sub-t59 c = search needs
 
 returns-4 : tie.Need-returns-4
 returns-4 c deep walks W h =
@@ -87,7 +87,7 @@ extend-spec =
     (tie.spec
     returns
     worse-requires
-    sub-t30
+    sub-t31
     returns-2
     add-numbers
     mul-numbers
@@ -95,11 +95,11 @@ extend-spec =
     add-check
     check-requires
     worse-requires-2
-    sub-t44
+    sub-t46
     returns-3
     add-next
     mul-next
     array-write-next
-    add-t40
-    sub-t56
+    add-t42
+    sub-t59
     returns-4)

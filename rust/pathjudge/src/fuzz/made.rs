@@ -270,6 +270,7 @@ pub fn step(random: &mut Random, certificates: usize) -> Step {
         next: [(); MOST_CERTIFICATES].map(|()| random.number(USUAL)),
         depth: if random.percent(80) { random.below(MOST_CERTIFICATES + 1) } else { random.number(USUAL) },
         at: random.number(USUAL),
+        list: random.number(USUAL),
         anchor: random.number(USUAL),
         signatures: random.number(USUAL) as u64,
         extensions: if certificates <= FEW { random.number(USUAL) } else { random.below(USUAL) } as u64,

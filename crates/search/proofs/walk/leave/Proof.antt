@@ -7,11 +7,11 @@ use Rattle.search.proofs.walk.leave.Tie as tie
 returns : tie.Need-returns
 returns c W none = over W (c .before .before .before .args .s) (c .before .before .before .pre .0) (c .before .before .before .pre .1) none (c .before .before .if1 .taken)
 
-sub-t15 : tie.Need-sub-t15
-sub-t15 c = search needs
+sub-t16 : tie.Need-sub-t16
+sub-t16 c = search needs
 
 returns-2 : tie.Need-returns-2
 returns-2 c W none = pops W (c .before .before .before .args .s) (c .before .before .before .pre .0) (c .before .before .before .pre .1) none (c .before .before .if1 .left)
 
 pub leave-spec : {M : Type 1} → statement M
-leave-spec = tie.close (tie.spec returns sub-t15 returns-2)
+leave-spec = tie.close (tie.spec returns sub-t16 returns-2)

@@ -8,7 +8,7 @@ use denote.Ref.{now}
 use Rattle.lent.specs.Lent.{readingsIn}
 use mathlib.Core.List.{map}
 use native.Mathlib.Omega.{arith}
-use mathlib.Core.Path.{_≡_, refl, sym, ap, _∙_}
+use mathlib.Core.Path.{_≡_, sym, ap, _∙_}
 use borrow.Author.Needs.{needs}
 use Rattle.search.proofs.walk.move_on.Statement.{statement}
 use Rattle.search.proofs.walk.move_on.Tie as tie
@@ -26,12 +26,12 @@ add-if1 : tie.Need-add-if1
 add-if1 c = search needs
 
 leave-requires : tie.Need-leave-requires
-leave-requires c κs = c .before .before .before .before .before .pre
+leave-requires c κs = c .before .before .before .before .before .before .pre
 
 returns : tie.Need-returns
 unfolding worldIn
-returns c C B =
-    let a = c .before .before .before .before .before .before .args in
+returns c =
+    let a = c .before .before .before .before .before .before .before .args in
     c .leave .ensures _ (omega (arith, c .before .if1 .taken, length-map (a .subjects .now) now, length-map (a .issuers .now) now))
 
 add-next : tie.Need-add-next
@@ -66,27 +66,27 @@ extend-requires c κs = tt
 
 returns-2 : tie.Need-returns-2
 unfolding worldIn
-returns-2 c C B =
-    let a = c .before .before .before .before .before .before .before .before .before .before .before .args in
-    let p = c .before .before .before .before .before .before .before .before .before .before .before .pre in
-    let W = worldIn (readingsIn (a .table .now) (map now (a .issuers .now)) (a .end .now) (length (a .subjects .now))) (map now (a .issuers .now)) (a .end .now) (map now (a .subjects .now)) (map now (a .keys .now)) C B (map now (a .distrusted .now)) (a .time) (a .wanted .now) (a .demanded) in
-    notes W (a .s) (p .0) (p .1) (omega (arith, c .before .before .before .before .before .before .if1 .left, length-map (a .subjects .now) now, length-map (a .issuers .now) now)) (long (c .before .before .before .before .before .before .before .before .before .before .before)) (c .note .result) _ (c .note .ensures) (sym (c .before .before .before .before .verdict-on .ensures) ∙ c .before .before .e .given .1)
+returns-2 c =
+    let a = c .before .before .before .before .before .before .before .before .before .before .before .before .args in
+    let p = c .before .before .before .before .before .before .before .before .before .before .before .before .pre in
+    let W = worldIn (readingsIn (a .table .now) (map now (a .issuers .now)) (a .end .now) (length (a .subjects .now))) (map now (a .issuers .now)) (a .end .now) (map now (a .subjects .now)) (map now (a .keys .now)) (map now (a .constraints .now)) (a .bound .now) (map now (a .distrusted .now)) (a .time) (a .wanted .now) (a .demanded) in
+    notes W (a .s) (p .0) (p .1) (omega (arith, c .before .before .before .before .before .before .if1 .left, length-map (a .subjects .now) now, length-map (a .issuers .now) now)) (long (c .before .before .before .before .before .before .before .before .before .before .before .before)) (c .note .result) _ (c .note .ensures) (sym (c .before .before .before .before .verdict-on .ensures) ∙ c .before .before .e .given .1)
 
 returns-3 : tie.Need-returns-3
 unfolding worldIn
-returns-3 c C B =
-    let a = c .before .before .before .before .before .before .before .before .before .before .args in
-    let p = c .before .before .before .before .before .before .before .before .before .before .pre in
-    let W = worldIn (readingsIn (a .table .now) (map now (a .issuers .now)) (a .end .now) (length (a .subjects .now))) (map now (a .issuers .now)) (a .end .now) (map now (a .subjects .now)) (map now (a .keys .now)) C B (map now (a .distrusted .now)) (a .time) (a .wanted .now) (a .demanded) in
-    tries W (a .s) (p .0) (p .1) (omega (arith, c .before .before .before .before .before .if1 .left, length-map (a .subjects .now) now, length-map (a .issuers .now) now)) (long (c .before .before .before .before .before .before .before .before .before .before)) (c .anchor .result) (sym (c .before .before .before .verdict-on .ensures) ∙ c .before .enum-told .given .1) (c .anchor .ensures (p .0) W (λ k q. refl))
+returns-3 c =
+    let a = c .before .before .before .before .before .before .before .before .before .before .before .args in
+    let p = c .before .before .before .before .before .before .before .before .before .before .before .pre in
+    let W = worldIn (readingsIn (a .table .now) (map now (a .issuers .now)) (a .end .now) (length (a .subjects .now))) (map now (a .issuers .now)) (a .end .now) (map now (a .subjects .now)) (map now (a .keys .now)) (map now (a .constraints .now)) (a .bound .now) (map now (a .distrusted .now)) (a .time) (a .wanted .now) (a .demanded) in
+    tries W (a .s) (p .0) (p .1) (omega (arith, c .before .before .before .before .before .if1 .left, length-map (a .subjects .now) now, length-map (a .issuers .now) now)) (long (c .before .before .before .before .before .before .before .before .before .before .before)) (c .anchor .result) (sym (c .before .before .before .verdict-on .ensures) ∙ c .before .enum-told .given .1) (c .anchor .ensures (p .0) W)
 
 returns-4 : tie.Need-returns-4
 unfolding worldIn
-returns-4 c C B =
-    let a = c .before .before .before .before .before .before .before .before .before .before .args in
-    let p = c .before .before .before .before .before .before .before .before .before .before .pre in
-    let W = worldIn (readingsIn (a .table .now) (map now (a .issuers .now)) (a .end .now) (length (a .subjects .now))) (map now (a .issuers .now)) (a .end .now) (map now (a .subjects .now)) (map now (a .keys .now)) C B (map now (a .distrusted .now)) (a .time) (a .wanted .now) (a .demanded) in
-    extends W (a .s) (p .0) (p .1) (omega (arith, c .before .before .before .before .before .if1 .left, length-map (a .subjects .now) now, length-map (a .issuers .now) now)) (long (c .before .before .before .before .before .before .before .before .before .before)) (c .extend .result) (sym (c .before .before .before .verdict-on .ensures) ∙ c .before .enum-told2 .given .1)
+returns-4 c =
+    let a = c .before .before .before .before .before .before .before .before .before .before .before .args in
+    let p = c .before .before .before .before .before .before .before .before .before .before .before .pre in
+    let W = worldIn (readingsIn (a .table .now) (map now (a .issuers .now)) (a .end .now) (length (a .subjects .now))) (map now (a .issuers .now)) (a .end .now) (map now (a .subjects .now)) (map now (a .keys .now)) (map now (a .constraints .now)) (a .bound .now) (map now (a .distrusted .now)) (a .time) (a .wanted .now) (a .demanded) in
+    extends W (a .s) (p .0) (p .1) (omega (arith, c .before .before .before .before .before .if1 .left, length-map (a .subjects .now) now, length-map (a .issuers .now) now)) (long (c .before .before .before .before .before .before .before .before .before .before .before)) (c .extend .result) (sym (c .before .before .before .verdict-on .ensures) ∙ c .before .enum-told2 .given .1)
     (c .extend .ensures (p .0) (p .1) W (λ q. ap (λ (n : ℕ). checkIn (readingsIn (a .table .now) (map now (a .issuers .now)) (a .end .now) (length (a .subjects .now))) (map now (a .issuers .now)) (a .end .now) n (map now (a .distrusted .now)) (a .time) (a .wanted .now) (a .demanded) q) (length-map (a .subjects .now) now)))
 
 pub move-on-spec : {M : Type 1} → statement M

@@ -1,4 +1,6 @@
 // What a signature question is about: the signed bytes, the algorithm and the signature of a certificate, and the parts of a key.
+#![tactic(auto)]
+
 ghost use Rattle.std.specs.Prelude.{◌≡◌, map};
 ghost use Rattle.asked.specs.Model.{key_in, question_in, reply_in};
 ghost use Rattle.lent.specs.Lent.{readings_in};
@@ -9,7 +11,7 @@ use rows::Outlined;
 
 // Places in the certificate's bytes. Those of the key are in an anchor's key or in the certificate that the key is of. A key that cannot be
 // read is no reason not to ask: it is not opened where the algorithm is unknown.
-#[derive(Drop)]
+#[derive(Clone, Copy)]
 pub enum Question {
     Of {
         signed: Span,

@@ -1,4 +1,6 @@
 // BIT STRING: without unused bits, and as flags.
+#![tactic(auto)]
+
 ghost use Rattle.std.specs.Prelude.{◌≡◌};
 ghost use Rattle.bits.specs.Model.{whole_octets, bits_at, flags_in, flag_at};
 

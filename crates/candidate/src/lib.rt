@@ -1,4 +1,6 @@
 // What a candidate is to a path: an anchor to try, an issuer to extend the path with, or passed over.
+#![tactic(auto)]
+
 ghost use Rattle.std.specs.Prelude.{◌≡◌, map, length, ◌<◌};
 ghost use Rattle.lent.specs.Lent.{readings_in, pre};
 ghost use Rattle.candidate.specs.Model.{has_both_as, on_path_in, anchor_verdict, is_flagged, is_whole, anchor_at, issuer_verdict_in, verdict_in};
@@ -7,7 +9,7 @@ use der::Span;
 use lent::MOST_INTERMEDIATES;
 use rows::Outlined;
 
-#[derive(Drop)]
+#[derive(Clone, Copy)]
 pub enum Verdict {
     Pass(u16),
     Anchor,

@@ -4,7 +4,7 @@ ghost use Rattle.cert.specs.Model.{key_parts};
 
 use der::{Got, Span};
 
-#[derive(Drop)]
+#[derive(Clone, Copy)]
 pub enum Key {
     Parts { algorithm: Span, bits: Span },
     Refused(u16),

@@ -1,4 +1,6 @@
 // One certificate: where each of its fields lies in its bytes, or why it is refused.
+#![tactic(auto)]
+
 ghost use Rattle.std.specs.Prelude.{◌≡◌};
 ghost use Rattle.cert.specs.Model.{fields_at, whole_of, read_certificate, read_anchor};
 
@@ -9,7 +11,7 @@ use extensions::{Kept, Known, Slot};
 pub mod key;
 
 // The contents of a certificate's fields, and the signed bytes with their header.
-#[derive(Drop)]
+#[derive(Clone, Copy)]
 pub struct Certificate {
     pub signed: Span,
     pub algorithm: Span,
@@ -23,14 +25,14 @@ pub struct Certificate {
     pub known: Known,
 }
 
-#[derive(Drop)]
+#[derive(Clone, Copy)]
 pub enum Reading {
     Accepted(Certificate),
     Refused(u16),
 }
 
 // What is taken of a certificate that is trusted.
-#[derive(Drop)]
+#[derive(Clone, Copy)]
 pub enum Anchored {
     Anchor {
         subject: Span,
@@ -40,7 +42,7 @@ pub enum Anchored {
     Refused(u16),
 }
 
-#[derive(Drop)]
+#[derive(Clone, Copy)]
 struct Fields {
     issuer: Span,
     validity: Span,
@@ -48,7 +50,7 @@ struct Fields {
     key: Span,
 }
 
-#[derive(Drop)]
+#[derive(Clone, Copy)]
 enum Found {
     All(Fields),
     Refused(u16),

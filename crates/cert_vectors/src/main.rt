@@ -5,6 +5,8 @@
 //   f  the certificate with each single bit flipped, p  each prefix of it: a letter for each refusal, for a certificate that is
 //      accepted a digit that is made of its places; first strict, then as an anchor
 //   k  a key: its algorithm and its bits
+#![tactic(auto)]
+
 use cert::key::Key;
 use cert::{Anchored, Reading, key};
 use der::Span;

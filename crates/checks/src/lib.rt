@@ -1,4 +1,6 @@
 // The checks of one certificate by itself, each a refusal or 0: time, role and path length, purposes.
+#![tactic(auto)]
+
 ghost use Rattle.std.specs.Prelude.{◌≡◌};
 ghost use Rattle.checks.specs.Model.{in_time, valid_at, in_role, bounded_role, basic_in, basic_of, purpose_in, purposes_of, own_of};
 

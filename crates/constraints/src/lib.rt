@@ -1,5 +1,7 @@
 // Name constraints of a path, RFC 5280, 4.2.1.10: those of the anchor and of each issuer against every certificate below, down to the end
 // entity.
+#![tactic(auto)]
+
 ghost use Rattle.std.specs.Prelude.{◌≡◌, map, ℕ};
 ghost use Rattle.entries.specs.Tally.{Tally, after, spend};
 ghost use Rattle.subtrees.specs.Noted.{noted};

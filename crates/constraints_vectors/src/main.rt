@@ -4,6 +4,7 @@
 // A line is: three bytes, the comparisons allowed; a byte, 1 if the anchor has constraints; a byte, how many intermediates there are, at
 // most six; then fields, each after two bytes that say how long it is: the content of the anchor's constraints, the end entity, and the
 // intermediates, from the one that issued the end entity up.
+#![tactic(auto)]
 
 fn put(text: &[u8]) {
     io::write_all(1, text);

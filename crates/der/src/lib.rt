@@ -1,5 +1,7 @@
 // A reader of DER values: one tag byte, a definite length in its shortest form, and the content, all
 // given by places in a slice that is never copied.
+#![tactic(auto)]
+
 ghost use Rattle.std.specs.Prelude.{◌≡◌, ◌+◌, ◌≤◌, ◌<◌, length};
 ghost use Rattle.der.specs.Model.{ByteAt, high_tag, long_form, read_length, read_limited, read_value, expect_at};
 
@@ -7,27 +9,27 @@ ghost use Rattle.der.specs.Model.{ByteAt, high_tag, long_form, read_length, read
 pub const LIMIT: usize = 65535;
 
 // A length and the place after it, or none.
-#[derive(Drop)]
+#[derive(Clone, Copy)]
 pub enum Length {
     Is { len: usize, next: usize },
     Bad,
 }
 
 // A value: its tag, and where its content begins and ends. The next value begins where the content ends.
-#[derive(Drop)]
+#[derive(Clone, Copy)]
 pub enum Read {
     Value { tag: u8, start: usize, end: usize },
     Refused,
 }
 
-#[derive(Drop)]
+#[derive(Clone, Copy)]
 pub struct Span {
     pub start: usize,
     pub end: usize,
 }
 
 // A content that was looked for, or why not.
-#[derive(Drop)]
+#[derive(Clone, Copy)]
 pub enum Got {
     Content(Span),
     Refused(u16),

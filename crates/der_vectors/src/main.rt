@@ -1,4 +1,6 @@
 // Reads each line of hexadecimal digits in every way that crate `der` offers, from its first byte to its last, and prints what it finds.
+#![tactic(auto)]
+
 use der::{Got, Read};
 use parts::Count;
 use values::{Small, Truth};

@@ -1,10 +1,12 @@
 // DNS names: which names a presented one stands for.
+#![tactic(auto)]
+
 ghost use Rattle.std.specs.Prelude.{◌≡◌};
 ghost use Rattle.dns.specs.Names.{small};
 ghost use Rattle.dns.specs.Model.{same_text, stands_for, in_subtree, meets_subtree, yes_if, match_wanted, match_permitted, match_excluded};
 
 // What a comparison answers.
-#[derive(Drop)]
+#[derive(Clone, Copy)]
 pub enum Answer {
     Yes,
     No,

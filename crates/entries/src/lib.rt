@@ -1,4 +1,6 @@
 // The entries of one list of subtrees, RFC 5280, 4.2.1.10, against one name.
+#![tactic(auto)]
+
 ghost use Rattle.std.specs.Prelude.{◌≡◌};
 ghost use Rattle.entries.specs.Tally.{spend};
 ghost use Rattle.entries.specs.Model.{base_at, compared, settled, judged, entries, closed};
@@ -9,27 +11,27 @@ use names::general;
 use names::general::Name;
 
 // What is left of the comparisons, and the first refusal; 0: none.
-#[derive(Drop)]
+#[derive(Clone, Copy)]
 pub struct Spent {
     pub left: u64,
     pub refusal: u16,
 }
 
 // The base of an entry: its kind, and where its content begins and ends. The next entry begins where the content ends.
-#[derive(Drop)]
+#[derive(Clone, Copy)]
 pub enum Base {
     Is { kind: u8, start: usize, end: usize },
     Refused(u16),
 }
 
 // Of the permitted entries of the name's kind: whether one has the name, and whether one has it not.
-#[derive(Drop)]
+#[derive(Clone, Copy)]
 pub struct Seen {
     pub hit: bool,
     pub miss: bool,
 }
 
-#[derive(Drop)]
+#[derive(Clone, Copy)]
 pub enum Step {
     Next { at: usize, seen: Seen },
     Stop(u16),

@@ -1,4 +1,6 @@
 // The outside of a certificate, and how what is signed begins: RFC 5280, 4.1.1 and 4.1.2.1 to 4.1.2.3.
+#![tactic(auto)]
+
 ghost use Rattle.std.specs.Prelude.{◌≡◌};
 ghost use Rattle.envelope.specs.Model.{parts_in, opened, version_at, begun};
 
@@ -6,7 +8,7 @@ use der::{Got, Span};
 use values::Small;
 
 // What is signed, with its header and without, and the two values beside it.
-#[derive(Drop)]
+#[derive(Clone, Copy)]
 pub struct Envelope {
     pub signed: Span,
     pub content: Span,
@@ -14,19 +16,19 @@ pub struct Envelope {
     pub signature: Span,
 }
 
-#[derive(Drop)]
+#[derive(Clone, Copy)]
 pub enum Opened {
     Parts(Envelope),
     Refused(u16),
 }
 
-#[derive(Drop)]
+#[derive(Clone, Copy)]
 pub struct Beginning {
     pub serial: Span,
     pub algorithm: Span,
 }
 
-#[derive(Drop)]
+#[derive(Clone, Copy)]
 pub enum Begun {
     With(Beginning),
     Refused(u16),

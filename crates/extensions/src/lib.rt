@@ -1,4 +1,6 @@
 // A certificate's extensions: RFC 5280, 4.2. Those that are known are kept by place, each in a slot of its own.
+#![tactic(auto)]
+
 ghost use Rattle.std.specs.Prelude.{◌≡◌};
 ghost use Rattle.extensions.specs.Model.{known_kind, kind_of, slot_of, set_slot, none_known, extension_in, content_of, ruled, remembered, moved, taken, gathered, extensions_at};
 
@@ -22,7 +24,7 @@ pub const KEY_PURPOSES: u8 = 37;
 pub const UNKNOWN: u8 = 0;
 
 // An extension that is there, and where, or is not: then both places are 0.
-#[derive(Drop)]
+#[derive(Clone, Copy)]
 pub struct Slot {
     pub known: bool,
     pub start: usize,
@@ -30,7 +32,7 @@ pub struct Slot {
 }
 
 // The value of key usage; of each other the content of the SEQUENCE that is its value.
-#[derive(Drop)]
+#[derive(Clone, Copy)]
 pub struct Known {
     pub key_usage: Slot,
     pub alternative_name: Slot,
@@ -40,27 +42,27 @@ pub struct Known {
     pub key_purposes: Slot,
 }
 
-#[derive(Drop)]
+#[derive(Clone, Copy)]
 pub enum Kept {
     All(Known),
     Refused(u16),
 }
 
-#[derive(Drop)]
+#[derive(Clone, Copy)]
 struct Extension {
     identifier: Span,
     critical: bool,
     value: Span,
 }
 
-#[derive(Drop)]
+#[derive(Clone, Copy)]
 enum Parsed {
     Is(Extension),
     Refused(u16),
 }
 
 // What becomes of an extension: nothing is kept of it, or something in the slot of its kind, or it is refused.
-#[derive(Drop)]
+#[derive(Clone, Copy)]
 enum Ruling {
     Pass,
     Keep { kind: u8, start: usize, end: usize },
@@ -68,7 +70,7 @@ enum Ruling {
 }
 
 // The same with the place after the extension.
-#[derive(Drop)]
+#[derive(Clone, Copy)]
 enum Step {
     Skip(usize),
     Keep {

@@ -15,6 +15,8 @@
 //         show(&out[..count]);
 //         at = end + 1;
 //     }
+#![tactic(auto)]
+
 ghost use Rattle.std.specs.Prelude.{◌≤◌, ◌≡◌, length};
 ghost use Rattle.io.specs.Counts.{IsPrefixLen};
 

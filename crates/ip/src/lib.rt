@@ -1,4 +1,6 @@
 // IP addresses: whether one lies in a subnet, which is an address and a mask.
+#![tactic(auto)]
+
 ghost use Rattle.std.specs.Prelude.{◌≡◌, true, length};
 ghost use Rattle.ip.specs.Model.{neither, broken_mask, masked_byte, subnet_from, match_subnet, same_address};
 
@@ -14,7 +16,7 @@ const IPV4_SUBNET: usize = 8;
 const IPV6_SUBNET: usize = 32;
 
 // A byte of an address beside a subnet's, and the mask's.
-#[derive(Drop)]
+#[derive(Clone, Copy)]
 pub enum Masked {
     Same,
     Differs,

@@ -2,6 +2,8 @@
 // Exported to C: include/pathjudge.h.
 // A search lends a table of rows: what is read of each certificate when it begins is looked up there from then on, and read again where there is no
 // row for it. What the later functions promise is for the table as the first left it.
+#![tactic(auto)]
+
 ghost use Rattle.std.specs.Prelude.{◌≡◌, map, true};
 ghost use Rattle.cert.specs.Model.{read_certificate, read_anchor};
 ghost use Rattle.table.specs.Model.{Held};

@@ -1,4 +1,6 @@
 // Which texts are DNS names: labels with a dot between each two, byte by byte.
+#![tactic(auto)]
+
 ghost use Rattle.std.specs.Prelude.{◌≡◌};
 ghost use Rattle.labels.specs.Names.{digit, letter};
 ghost use Rattle.labels.specs.Model.{whole, take_byte, host_text, valid_presented, valid_wanted, valid_entry};
@@ -9,14 +11,14 @@ const LONGEST_NAME: usize = 253;
 const LONGEST_LABEL: usize = 63;
 
 // The label that is being read: its bytes so far, whether the last is a hyphen, whether all are digits.
-#[derive(Drop)]
+#[derive(Clone, Copy)]
 struct Label {
     size: usize,
     hyphen: bool,
     digits: bool,
 }
 
-#[derive(Drop)]
+#[derive(Clone, Copy)]
 enum Taken {
     Next(Label),
     Bad,

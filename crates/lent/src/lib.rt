@@ -1,5 +1,7 @@
 // What a request lends: certificates, anchors and distrusted keys by number, and paths of such numbers.
 // The candidates have one numbering: the anchors, then the intermediates; every other number is the end entity's.
+#![tactic(auto)]
+
 ghost use Rattle.std.specs.Prelude.{◌≡◌, map, get_or};
 ghost use Rattle.rows.specs.Model.{outlined};
 ghost use Rattle.lent.specs.Lent.{certificate_of, row_at, readings_in, listed};

@@ -1,10 +1,12 @@
 // The search for a path as a machine: its states, the question of each, and what they stand for.
+#![tactic(auto)]
+
 ghost use Rattle.std.specs.Prelude.{◌≡◌};
 ghost use Rattle.machine.specs.Machine.{key_at, cert_at, place_of};
 
 // What the machine waits for, or how it ended. Ask: whether a key signed a certificate. Offer: whether the caller is content with the path.
 // Spent: which budget is used up.
-#[derive(Drop)]
+#[derive(Clone, Copy)]
 pub enum Phase {
     Walk,
     Ask,
@@ -14,7 +16,7 @@ pub enum Phase {
     Spent(u16),
 }
 
-#[derive(Drop)]
+#[derive(Clone, Copy)]
 pub struct State {
     // the path, end entity first; at each level the next candidate
     pub path: [usize; 7],
@@ -34,7 +36,7 @@ pub struct State {
 }
 
 // The numbers of a question: whether the key of candidate `key` signed the certificate.
-#[derive(Drop)]
+#[derive(Clone, Copy)]
 pub struct Numbers {
     pub key: usize,
     pub certificate: usize,

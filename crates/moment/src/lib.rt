@@ -1,4 +1,6 @@
 // The two kinds of time, UTCTime and GeneralizedTime, as seconds since 1970.
+#![tactic(auto)]
+
 ghost use Rattle.std.specs.Prelude.{◌≡◌, ◌+◌, ◌-◌, ◌≤◌, ◌<◌, length};
 ghost use Rattle.moment.specs.Calendar.{leap_year, days_of_month, days_of_months, days_of_years, Real, seconds_to, full_year};
 ghost use Rattle.moment.specs.Model.{date_of, two_at, date_at, no_such_day, no_such_time, unreal, moment_of, after_year_at, utc_in, generalized_in, is_utc, utc_at, generalized_at, time_at};
@@ -20,13 +22,13 @@ const NINE: u64 = 57;
 const NO_NUMBER: u64 = 100;
 
 // A moment and the place after it, or why there is none.
-#[derive(Drop)]
+#[derive(Clone, Copy)]
 pub enum Time {
     At { seconds: u64, next: usize },
     Refused(u16),
 }
 
-#[derive(Drop)]
+#[derive(Clone, Copy)]
 struct Date {
     year: u64,
     month: u64,

@@ -1,5 +1,7 @@
 // Reads lines of hexadecimal digits, each a time in DER, and writes a line for each: the moment and the place after it, or the
 // refusal.
+#![tactic(auto)]
+
 use moment::Time;
 
 fn show_refusal(e: u16) {

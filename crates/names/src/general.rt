@@ -25,21 +25,21 @@ pub const IP: u8 = 0x87;
 pub const REGISTERED: u8 = 0x88;
 
 // A general name: its kind, and where its content begins and ends. The next name begins where the content ends.
-#[derive(Drop)]
+#[derive(Clone, Copy)]
 pub enum Name {
     Found { kind: u8, start: usize, end: usize },
     Refused(u16),
 }
 
 // What one of several names comes to.
-#[derive(Drop)]
+#[derive(Clone, Copy)]
 enum Tried {
     Good,
     Next(usize),
     Refused(u16),
 }
 
-#[derive(Drop)]
+#[derive(Clone, Copy)]
 pub enum Verdict {
     Good,
     Refused(u16),

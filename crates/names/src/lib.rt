@@ -1,2 +1,4 @@
 // Names that a certificate presents.
+#![tactic(auto)]
+
 pub mod general;

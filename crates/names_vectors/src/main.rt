@@ -1,5 +1,7 @@
 // Answers each line of hexadecimal digits: the first byte is the question, the second says how many bytes the first text has, and the
 // rest is the second text.
+#![tactic(auto)]
+
 use dns::Answer;
 use names::general;
 use names::general::{Name, Verdict};

@@ -1,11 +1,13 @@
 // Values in a row, and parts of slices compared.
+#![tactic(auto)]
+
 ghost use Rattle.std.specs.Prelude.{◌≡◌};
 ghost use Rattle.parts.specs.Model.{count_values, same_parts};
 
 use der::Read;
 
 // How many values stand in a row.
-#[derive(Drop)]
+#[derive(Clone, Copy)]
 pub enum Count {
     Values(usize),
     Broken,

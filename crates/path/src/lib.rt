@@ -1,4 +1,6 @@
 // One certificate in its place on a path: the checks before any signature, in order, of which the first that fails decides.
+#![tactic(auto)]
+
 ghost use Rattle.std.specs.Prelude.{◌≡◌, map};
 ghost use Rattle.lent.specs.Lent.{readings_in, pre};
 ghost use Rattle.path.specs.Model.{checked_as, check_in};

@@ -1,4 +1,6 @@
 // Every refusal as a number with a name, 0 for none; the rank of each; which of them end a search.
+#![tactic(auto)]
+
 ghost use Rattle.std.specs.Prelude.{◌≡◌};
 ghost use Rattle.refusal.specs.Refusals.{rank_of, is_fatal};
 ghost use Rattle.refusal.specs.Model.{worse_of};

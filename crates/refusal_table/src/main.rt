@@ -1,4 +1,6 @@
 // Prints the table of refusals. The input has the Rust's names, a line each, in the order of the numbers; rank and end are this library's answers.
+#![tactic(auto)]
+
 ghost use Rattle.std.specs.Prelude.{◌≤◌, length};
 
 use libc::{STDIN_FILENO, STDOUT_FILENO};

@@ -1,4 +1,6 @@
 // What an answer does to a state, before the walk goes on.
+#![tactic(auto)]
+
 ghost use Rattle.std.specs.Prelude.{◌≡◌, List, [], map, ℕ, ◌<◌};
 ghost use Rattle.rows.specs.Model.{outlined};
 ghost use Rattle.lent.specs.Lent.{readings_in, pre, some_of};

@@ -1,4 +1,6 @@
 // A certificate as a row of numbers, and back; and what the search uses of one.
+#![tactic(auto)]
+
 ghost use Rattle.std.specs.Prelude.{◌≡◌, cond, ◌<◌};
 ghost use Rattle.cert.specs.declared.Reading.TheVariants.{Accepted, Refused};
 ghost use Rattle.rows.specs.Model.{span_in, slot_in, known_in, certificate_in, outline_of, row_reading};
@@ -8,7 +10,7 @@ use der::Span;
 use extensions::{Known, Slot};
 
 // What the search uses of a certificate, but for the checks of the certificate itself.
-#[derive(Drop)]
+#[derive(Clone, Copy)]
 pub struct Outline {
     pub signed: Span,
     pub algorithm: Span,
@@ -19,7 +21,7 @@ pub struct Outline {
     pub constrained: bool,
 }
 
-#[derive(Drop)]
+#[derive(Clone, Copy)]
 pub enum Outlined {
     Is(Outline),
     Refused(u16),

@@ -1,4 +1,6 @@
 // A whole search with the answers known beforehand.
+#![tactic(auto)]
+
 ghost use Rattle.std.specs.Prelude.{map, length, ◌+◌};
 ghost use Rattle.lent.specs.Lent.{readings_in};
 ghost use Rattle.machine.specs.Machine.{Came};

@@ -1,4 +1,6 @@
 // The search for a path as a machine: it walks by itself, asks about one signature at a time, offers a finished path, and goes on with the answer.
+#![tactic(auto)]
+
 ghost use Rattle.std.specs.Prelude.{[], map, length, ◌+◌};
 ghost use Rattle.lent.specs.Lent.{readings_in};
 ghost use Rattle.machine.specs.Machine.{Answered, Came};

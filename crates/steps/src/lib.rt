@@ -1,4 +1,6 @@
 // Steps, which a caller holds between two calls, and the states of the search: the same numbers, the phase as a number.
+#![tactic(auto)]
+
 ghost use Rattle.std.specs.Prelude.{◌≡◌};
 ghost use Rattle.table.specs.Model.{reading_in};
 ghost use Rattle.wanted.specs.Model.{name_by};
@@ -21,7 +23,7 @@ pub const SPENT: u16 = 5;
 
 // A search between two calls, in numbers alone: the path, the end entity first; the anchor that is tried; what is left of the budgets.
 #[repr(C)]
-#[derive(Drop)]
+#[derive(Clone, Copy)]
 pub struct Step {
     pub path: [usize; 7],
     pub next: [usize; 7],

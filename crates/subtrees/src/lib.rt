@@ -1,4 +1,6 @@
 // The two lists of name constraints, RFC 5280, 4.2.1.10, against the names of one certificate.
+#![tactic(auto)]
+
 ghost use Rattle.std.specs.Prelude.{◌≡◌};
 ghost use Rattle.der.specs.Places.{part};
 ghost use Rattle.entries.specs.Tally.{spend};
@@ -12,13 +14,13 @@ use names::general;
 use names::general::Name;
 
 // The two lists of name constraints, each without its header; one that is not there is empty.
-#[derive(Drop)]
+#[derive(Clone, Copy)]
 pub struct Subtrees {
     pub permitted: Span,
     pub excluded: Span,
 }
 
-#[derive(Drop)]
+#[derive(Clone, Copy)]
 pub enum Lists {
     Are(Subtrees),
     Refused(u16),

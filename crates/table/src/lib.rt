@@ -1,5 +1,7 @@
 // What was read of the certificates that a request lends, in rows of numbers that the caller lends: each certificate is read once, and looked up
 // from then on. The intermediates have a row each, in their order, and the end entity has the one after them.
+#![tactic(auto)]
+
 ghost use Rattle.std.specs.Prelude.{◌≡◌, map, true};
 ghost use Rattle.cert.specs.Model.{read_certificate};
 ghost use Rattle.rows.specs.Model.{outlined, row_reading};

@@ -1,4 +1,6 @@
 // What taking a candidate up does to a state of the walk: an anchor is tried, or the path is extended.
+#![tactic(auto)]
+
 ghost use Rattle.std.specs.Prelude.{◌≡◌, map, ◌<◌};
 ghost use Rattle.lent.specs.Lent.{readings_in};
 ghost use Rattle.path.specs.Model.{check_in};

@@ -1,4 +1,6 @@
 // Parts of a text: its first byte, what follows it, what comes before a dot at its end, what it has from its first dot on.
+#![tactic(auto)]
+
 ghost use Rattle.std.specs.Prelude.{◌≡◌, drop};
 ghost use Rattle.texts.specs.Model.{begins, relative_text, from_dot};
 

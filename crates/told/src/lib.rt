@@ -1,4 +1,6 @@
 // What callers are told of a question, and of a certificate that is trusted: places in the lent bytes, as numbers.
+#![tactic(auto)]
+
 ghost use Rattle.std.specs.Prelude.{◌≡◌, map, cond};
 ghost use Rattle.cert.specs.Model.{read_anchor};
 ghost use Rattle.lent.specs.Lent.{readings_in};
@@ -13,7 +15,7 @@ use der::Span;
 // What a question is about: the numbers of key and certificate; places in the certificate, and in what holds the key (an anchor's key, or
 // the certificate that the key is of). `refusal`: why there is no such certificate; `key_refusal`: why the key cannot be read.
 #[repr(C)]
-#[derive(Drop)]
+#[derive(Clone, Copy)]
 pub struct Asked {
     pub key: usize,
     pub certificate: usize,
@@ -33,7 +35,7 @@ pub struct Asked {
 
 // What is taken of a certificate that is trusted: places in its bytes; `bound`: whether it has name constraints.
 #[repr(C)]
-#[derive(Drop)]
+#[derive(Clone, Copy)]
 pub struct Trusted {
     pub subject_start: usize,
     pub subject_end: usize,

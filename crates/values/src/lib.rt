@@ -1,18 +1,20 @@
 // BOOLEAN and INTEGER, as far as they are read as values.
+#![tactic(auto)]
+
 ghost use Rattle.std.specs.Prelude.{◌≡◌, ◌<◌};
 ghost use Rattle.values.specs.Model.{only_byte, truth_in, read_bool, positive_in, nonnegative, small_in, read_small};
 
 use der::{Got, Span};
 
 // A BOOLEAN and the place after it, or why not.
-#[derive(Drop)]
+#[derive(Clone, Copy)]
 pub enum Truth {
     Is { value: bool, next: usize },
     Refused(u16),
 }
 
 // A number of one byte and the place after it, or why not.
-#[derive(Drop)]
+#[derive(Clone, Copy)]
 pub enum Small {
     Number { value: u8, next: usize },
     Refused(u16),

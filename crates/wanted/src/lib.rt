@@ -1,4 +1,6 @@
 // The name that an end entity must be good for.
+#![tactic(auto)]
+
 ghost use Rattle.std.specs.Prelude.{◌≡◌};
 ghost use Rattle.conditions.specs.Model.{refusal_in, name_in};
 ghost use Rattle.wanted.specs.Model.{name_by};

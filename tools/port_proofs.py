@@ -13,7 +13,7 @@ base = root / 'crates' / crate / 'proofs'
 
 
 def norm(name):
-    name = name.replace('-', '_')
+    name = re.sub(r'_lem$', '', name.replace('-', '_').lower()).replace('is_on_path', 'on_path')
     name = re.sub(r'^(overflow|nonzero)_', '', name)
     name = re.sub(r'^slice_bounds_', 'part_', name)
     name = re.sub(r'^(array_read|element_copy_out|shared_slice_read|slice_read|shared_slice_copy_out|slice_copy_out|bounds)_', 'read_', name)
@@ -128,7 +128,7 @@ def convert(function, path, info, short):
 
     answers, invariants, helpers = [], [], []
     for note, name, sig, unfold, bodies in decls:
-        m = re.search(r':\s*tie\.(Need-)?([^\s]+)', sig)
+        m = re.search(r':\s*tie\.(?!Start)(Need-)?([^\s]+)', sig)
         if re.match(r'pub \S+[-_]spec :', sig):
             continue
         if not m:
@@ -168,7 +168,7 @@ def convert(function, path, info, short):
         if right.strip() in TRIVIAL and not keep and not unfold:
             continue
         right = body_of(right, place)
-        answers.append('\n'.join(note + [f'pub {new} : goal.{new}'] + ([unfold] if unfold else []) + [f'{new} c ={right}']))
+        answers.append('\n'.join(note + [f'pub {new} : goal.{new}'] + ([unfold] if unfold else []) + [' '.join([new, 'c', *(w for w in left.split()[2:] if w != 'κs')]) + f' ={right}']))
     here = path.parent
     module = f'Rattle.{crate}.proofs.' + '.'.join(path.parent.relative_to(base).parts)
 

@@ -1,0 +1,7 @@
+use Rattle.rows.specs.Model.{certificate_in}
+use Rattle.rows.proofs.certificate_in.Goals as goal
+
+pub returns : goal.returns
+unfolding certificate_in
+returns c =
+    rw (c.span_at.ensures, c.span_at-2.ensures, c.span_at-3.ensures, c.span_at-4.ensures, c.span_at-5.ensures, c.span_at-6.ensures, c.span_at-7.ensures, c.span_at-8.ensures, c.span_at-9.ensures, c.known_in.ensures)

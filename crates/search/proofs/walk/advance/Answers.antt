@@ -1,0 +1,54 @@
+-- `search::walk::advance` meets its contract. Assumes nothing.
+use Rattle.dialogue.specs.Dialogue.{follow}
+use Rattle.machine.specs.World.{world_in}
+use Rattle.machine.specs.Machine.{Ran, move}
+use Rattle.machine.specs.declared.Phase.TheVariants.{Walk}
+use Rattle.machine.specs.declared.Phase.{Phase}
+use mathlib.Core.Path.{subst}
+use denote.Enum.Declared.{tag_of}
+use types.Run.{OneOf, miss}
+use Prim.Native.Nat.{ℕ, suc}
+use Rattle.lent.specs.Lent.{readings_in}
+use lib.ListN.{length}
+use mathlib.Core.List.{List, [], ◌∷◌, map, append-nil}
+use native.Mathlib.Omega.{arith}
+use mathlib.Core.Path.{◌≡◌, refl, sym, ◌∙◌}
+use Rattle.search.proofs.walk.advance.Goals as goal
+
+not-walk : (ph : Phase) → OneOf (1 ∷ 2 ∷ 3 ∷ 4 ∷ 5 ∷ []) (tag_of Rattle.machine.specs.contracts.Phase.the_type ph) → ph ≡ Walk → ⊥
+not-walk ph k h = miss (1 ∷ 2 ∷ 3 ∷ 4 ∷ 5 ∷ []) 0 tt (subst (λ (p : Phase). OneOf (1 ∷ 2 ∷ 3 ∷ 4 ∷ 5 ∷ []) (tag_of Rattle.machine.specs.contracts.Phase.the_type p)) h k)
+
+pub loop-t-init : goal.loop-t-init
+loop-t-init c = (c.requires, record { same = refl; most = omega arith; ran = λ s₀ said n h. (n, h) })
+
+pub move_on-t-requires : goal.move_on-t-requires
+move_on-t-requires c = (c.loop-t.invariant.0, c.in-Walk.is)
+
+pub loop-t-smaller : goal.loop-t-smaller
+loop-t-smaller c = c.move_on-t.ensures.less
+
+pub loop-t-preserved : goal.loop-t-preserved
+loop-t-preserved c =
+    let m = c.move_on-t.ensures in
+    let i = c.loop-t.invariant.1 in (
+      m.deep,
+      record {
+        same = m.same ∙ i.same;
+        most = omega (arith, m.less, i.most);
+        ran = λ s₀ said n h. let k = i.ran s₀ said n h in (suc k.0, move k.1 m);
+      },
+    )
+
+pub returns-in_default : goal.returns-in_default
+unfolding follow
+returns-in_default c =
+    let i = c.loop-t.invariant in
+    let a = c.args in
+    let W = world_in (readings_in a.table.now (map (λ x. x.now) a.issuers.now) a.end.now (length a.subjects.now)) (map (λ x. x.now) a.issuers.now) a.end.now (map (λ x. x.now) a.subjects.now) (map (λ x. x.now) a.keys.now) (map (λ x. x.now) a.constraints.now) a.bound.now (map (λ x. x.now) a.distrusted.now) a.time a.wanted.now a.demanded in
+    record {
+      same = i.1.same;
+      deep = i.0;
+      most = i.1.most;
+      halts = not-walk c.loop-t.t.phase c.in_default.in_default-own.keys2;
+      ran = λ s₀ said n h. let k = i.1.ran s₀ said n h in (k.0, subst (λ (l : List ℕ). Ran W s₀ c.loop-t.t l k.0) (sym (append-nil said)) k.1);
+    }

@@ -1,0 +1,61 @@
+-- `subtrees::alternatives` meets its contract: what is left of the walk, with what is left of the budget, has the answer of the whole. Assumes nothing.
+use Prim.Native.Nat.{◌-◌}
+use mathlib.Core.Path.{sym, ◌∙◌}
+use native.Mathlib.Omega.{arith}
+use Rattle.der.specs.Places.{part}
+use Rattle.names.specs.Model.{general_name}
+use Rattle.names.proofs.Laws.{name_within}
+use Rattle.entries.proofs.Spending.{begins, pays, refuses, stops, ends, at_once}
+use Rattle.subtrees.specs.Model.{alternatives}
+use Rattle.subtrees.proofs.Laws.{next_found, next_broken}
+use Rattle.subtrees.proofs.alternatives.Goals as goal
+
+pub loop-at-init : goal.loop-at-init
+unfolding alternatives
+loop-at-init c = begins _ _ _ _ _ _
+
+pub slice_bounds-name-count : goal.slice_bounds-name-count
+slice_bounds-name-count c =
+    let found = sym c.general_name.ensures ∙ c.in-Found.is in
+    let w = name_within _ _ _ _ _ _ found in
+    omega arith
+
+pub slice_bounds-name-start : goal.slice_bounds-name-start
+slice_bounds-name-start c =
+    let found = sym c.general_name.ensures ∙ c.in-Found.is in
+    let w = name_within _ _ _ _ _ _ found in
+    omega arith
+
+pub slice_bounds-name-end : goal.slice_bounds-name-end
+slice_bounds-name-end c =
+    let found = sym c.general_name.ensures ∙ c.in-Found.is in
+    let w = name_within _ _ _ _ _ _ found in
+    omega arith
+
+pub returns-then-one-ne0 : goal.returns-then-one-ne0
+unfolding part
+returns-then-one-ne0 c =
+    let found = sym c.general_name.ensures ∙ c.in-Found.is in
+    let w = name_within _ _ _ _ _ _ found in
+    refuses _ _ _ _ _ _ _ _ _ _ c.loop-at.invariant (omega arith) (next_found _ _ _ found) c.name-one.ensures c.if-one-ne0.true
+
+pub loop-at-smaller : goal.loop-at-smaller
+loop-at-smaller c =
+    let found = sym c.general_name.ensures ∙ c.in-Found.is in
+    let w = name_within _ _ _ _ _ _ found in
+    omega arith
+
+pub loop-at-preserved : goal.loop-at-preserved
+unfolding part
+loop-at-preserved c =
+    let found = sym c.general_name.ensures ∙ c.in-Found.is in
+    let w = name_within _ _ _ _ _ _ found in
+    pays _ _ _ _ _ _ _ _ _ _ c.loop-at.invariant (omega arith) (omega arith) (next_found _ _ _ found) c.name-one.ensures c.if-one-ne0.false
+
+pub returns-in-Refused : goal.returns-in-Refused
+returns-in-Refused c =
+    let found = sym c.general_name.ensures ∙ c.in-Refused.is in
+    sym (at_once _ _) ∙ stops _ _ _ _ _ _ _ c.loop-at.invariant (omega arith) (next_broken _ _ _ found)
+
+pub returns : goal.returns
+returns c = sym (at_once _ 0) ∙ ends _ _ _ _ _ _ c.loop-at.invariant (omega arith)

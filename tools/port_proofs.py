@@ -149,7 +149,8 @@ def convert(function, path, info, short):
             given = left.split()[1:]
             want = []
             for v, ch in zip(variables, changed):
-                want += [f'l.initial.{v}', f'l.{v}'] if ch else [f'l.{v}']
+                want.append(f'l.initial.{v}' if ch else f'l.{v}')
+            want += [f'l.{v}' for v, ch in zip(variables, changed) if ch]
             if len(given) != len(want):
                 said.append(f'{function}: {m[2]} takes {given}, today {variables} {changed}')
                 want += ['l.?'] * len(given)

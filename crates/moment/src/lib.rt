@@ -170,7 +170,7 @@ fn is_unreal(d: Date) -> bool
 // The seconds from 1970 to a date.
 fn seconds_to(d: Date) -> u64
     requires real { Real (date_of d) }
-    requires le_year { (1970 ≤ d.year) × (d.year ≤ 9999) }
+    requires years { (1970 ≤ d.year) × (d.year ≤ 9999) }
     ensures { result ≡ seconds_to (date_of d) }
 {
     let days = days_before_year(d.year) + days_before_month(d.year, d.month) + (d.day - 1);

@@ -8,7 +8,7 @@ use Rattle.constraints.proofs.below.Given as goal
 
 abbrev pub invariant-loop-lists : goal.invariant-loop-lists
 invariant-loop-lists l =
-    spend l.rest (below_in l.s l.lists (certs_at (cert_at l.table (map (λ x. x.now) l.issuers) l.end l.anchors) l.path l.initial.rest)) ≡ spend l.left (below_in l.s l.lists (certs_at (cert_at l.table (map (λ x. x.now) l.issuers) l.end l.anchors) l.path l.level))
+    spend l.rest (below_in l.s l.lists (certs_at (cert_at l.table (map (λ x. x.now) l.issuers) l.end l.anchors) l.path l.k)) ≡ spend l.left (below_in l.s l.lists (certs_at (cert_at l.table (map (λ x. x.now) l.issuers) l.end l.anchors) l.path l.level))
 
 abbrev pub decreases-loop-lists : goal.decreases-loop-lists
-decreases-loop-lists l = l.initial.rest
+decreases-loop-lists l = l.k

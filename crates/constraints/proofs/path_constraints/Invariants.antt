@@ -8,7 +8,7 @@ use Rattle.constraints.proofs.path_constraints.Given as goal
 
 abbrev pub invariant-loop-k : goal.invariant-loop-k
 invariant-loop-k l =
-    spend l.rest (issuers_in (certs_at (cert_at l.table (map (λ x. x.now) l.issuers) l.end l.anchors) l.path l.initial.rest)) ≡ spend l.left (path_constraints_in l.anchor l.bound (certs_at (cert_at l.table (map (λ x. x.now) l.issuers) l.end l.anchors) l.path l.depth))
+    spend l.rest (issuers_in (certs_at (cert_at l.table (map (λ x. x.now) l.issuers) l.end l.anchors) l.path l.k)) ≡ spend l.left (path_constraints_in l.anchor l.bound (certs_at (cert_at l.table (map (λ x. x.now) l.issuers) l.end l.anchors) l.path l.depth))
 
 abbrev pub decreases-loop-k : goal.decreases-loop-k
-decreases-loop-k l = l.initial.rest
+decreases-loop-k l = l.k

@@ -7,7 +7,7 @@ use Rattle.ip.specs.Model.{subnet_from}
 use Rattle.ip.proofs.in_subnet.Given as goal
 
 abbrev pub invariant-loop-i : goal.invariant-loop-i
-invariant-loop-i l = (l.i ≤ length l.p) × (subnet_from l.initial.i (drop l.i l.p) (drop l.i l.address) (drop l.i l.mask) ≡ subnet_from true l.p l.address l.mask)
+invariant-loop-i l = (l.i ≤ length l.p) × (subnet_from l.full (drop l.i l.p) (drop l.i l.address) (drop l.i l.mask) ≡ subnet_from true l.p l.address l.mask)
 
 abbrev pub decreases-loop-i : goal.decreases-loop-i
 decreases-loop-i l = length l.p - l.i

@@ -6,7 +6,7 @@ use Rattle.labels.specs.Model.{host_from, host_text}
 use Rattle.labels.proofs.host.Given as goal
 
 abbrev pub invariant-loop-i : goal.invariant-loop-i
-invariant-loop-i l = (l.i ≤ length l.h) × (host_from (drop l.i l.h) l.initial.i ≡ host_text l.h)
+invariant-loop-i l = (l.i ≤ length l.h) × (host_from (drop l.i l.h) l.label ≡ host_text l.h)
 
 abbrev pub decreases-loop-i : goal.decreases-loop-i
 decreases-loop-i l = length l.h - l.i

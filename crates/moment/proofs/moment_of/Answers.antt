@@ -14,7 +14,7 @@ unfolding moment_of
 returns-then-at-end c = search (tests, ← c.is_unreal.ensures, c.if-is_unreal.false)
 
 pub seconds_to-requires : goal.seconds_to-requires
-seconds_to-requires c = (left_is_real _ (sym c.is_unreal.ensures ∙ c.if-is_unreal.false), c.requires)
+seconds_to-requires c = record { real = left_is_real _ (sym c.is_unreal.ensures ∙ c.if-is_unreal.false); years = c.requires }
 
 pub returns : goal.returns
 unfolding moment_of

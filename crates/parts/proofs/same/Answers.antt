@@ -3,7 +3,7 @@ use Prim.Native.Nat.{◌-◌}
 use mathlib.Core.Path.{sym, ◌∙◌}
 use Rattle.der.proofs.Laws.{tests, in_part, left_falls}
 use Rattle.parts.specs.Model.{same_parts}
-use Rattle.parts.proofs.Equal.{same_parts, same_short, same_start, same_turn, same_differ, same_end, in_other}
+use Rattle.parts.proofs.Equal.{same_parts_lem, same_short, same_start, same_turn, same_differ, same_end, in_other}
 use Rattle.parts.proofs.same.Goals as goal
 
 pub returns-then-b-a : goal.returns-then-b-a
@@ -25,12 +25,12 @@ returns-then-t-d c = search tests
 pub returns-then-b-a-2 : goal.returns-then-b-a-2
 returns-then-b-a-2 c =
     sym
-    (same_parts _ _ _ _ _ _ c.if-b-a.false c.if-s-b.false c.if-d-c.false c.if-t-d.false
+    (same_parts_lem _ _ _ _ _ _ c.if-b-a.false c.if-s-b.false c.if-d-c.false c.if-t-d.false
     ∙ same_short _ _ _ _ _ _ c.if-s-b.false c.if-t-d.false c.if-b-a-2.true)
 
 pub loop-i-init : goal.loop-i-init
 loop-i-init c =
-    (omega arith, same_start _ _ _ _ _ _ ∙ sym (same_parts _ _ _ _ _ _ c.if-b-a.false c.if-s-b.false c.if-d-c.false c.if-t-d.false))
+    (omega arith, same_start _ _ _ _ _ _ ∙ sym (same_parts_lem _ _ _ _ _ _ c.if-b-a.false c.if-s-b.false c.if-d-c.false c.if-t-d.false))
 
 pub overflow_add-a : goal.overflow_add-a
 overflow_add-a c = omega (arith, in_part _ _ _ c.loop-i-test.true, c.ranges.b)
@@ -61,12 +61,11 @@ pub loop-i-smaller : goal.loop-i-smaller
 loop-i-smaller c = left_falls _ _ c.loop-i-test.true
 
 pub loop-i-preserved : goal.loop-i-preserved
-loop-i-preserved c =
-    (
-      omega (arith, c.loop-i-test.true),
-      same_turn _ _ _ _ _ _ _ c.loop-i-test.true c.if-b-a-2.false c.if-s-b.false c.if-t-d.false c.if-s-a.false
-          ∙ c.loop-i.invariant.1,
-    )
+loop-i-preserved c = (
+  omega (arith, c.loop-i-test.true),
+  same_turn _ _ _ _ _ _ _ c.loop-i-test.true c.if-b-a-2.false c.if-s-b.false c.if-t-d.false c.if-s-a.false
+      ∙ c.loop-i.invariant.1,
+)
 
 pub returns : goal.returns
 returns c =

@@ -3,7 +3,6 @@ use mathlib.Core.Path.{◌≡◌}
 use Rattle.parts.specs.Lists.{same_list}
 use Rattle.parts.specs.Model.{same_parts}
 use Rattle.der.specs.Places.{part}
-use Rattle.parts.proofs.Equal.{same_parts}
 use Rattle.parts.proofs.same.Given as goal
 
 abbrev pub invariant-loop-i : goal.invariant-loop-i

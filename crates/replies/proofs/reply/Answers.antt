@@ -3,21 +3,11 @@ use Rattle.machine.proofs.Moves.{idle}
 use Rattle.machine.specs.declared.Phase.TheVariants.{Ask, Offer}
 use Rattle.machine.specs.declared.Phase.{Phase}
 use denote.Enum.Declared.{tag_of}
-use types.Run.{OneOf, miss}
 use native.Mathlib.Omega.{arith}
 use mathlib.Core.Path.{subst}
 use mathlib.Core.List.{[], ◌∷◌}
 use mathlib.Core.Path.{◌≡◌}
 use Rattle.replies.proofs.reply.Goals as goal
-
-abbrev Rest : Phase → Type 0
-Rest ph = OneOf (0 ∷ 3 ∷ 4 ∷ 5 ∷ []) (tag_of Rattle.machine.specs.contracts.Phase.the_type ph)
-
-not-ask : (ph : Phase) → Rest ph → ph ≡ Ask → ⊥
-not-ask ph k h = miss (0 ∷ 3 ∷ 4 ∷ 5 ∷ []) 1 tt (subst Rest h k)
-
-not-offer : (ph : Phase) → Rest ph → ph ≡ Offer → ⊥
-not-offer ph k h = miss (0 ∷ 3 ∷ 4 ∷ 5 ∷ []) 2 tt (subst Rest h k)
 
 pub returns-then-s-gt-MOST_INTERMEDIATES : goal.returns-then-s-gt-MOST_INTERMEDIATES
 returns-then-s-gt-MOST_INTERMEDIATES c d h W j = absurd (omega (arith, d, c.if-s-gt-MOST_INTERMEDIATES.true))
@@ -37,4 +27,4 @@ returns-in-Offer c d h W j = c.on_word.ensures W
 pub returns-in_default : goal.returns-in_default
 returns-in_default c d h W j =
     let a = c.args in
-    idle W a.s d a.answer h (not-ask a.s.phase c.in_default.in_default-own.keys3) (not-offer a.s.phase c.in_default.in_default-own.keys3)
+    idle W a.s d a.answer h c.in_default.not-Ask c.in_default.not-Offer

@@ -13,16 +13,16 @@ pub loop-i-init : goal.loop-i-init
 loop-i-init c = (omega arith, c.start-s.ensures)
 
 pub offset_bounds-answers-i : goal.offset_bounds-answers-i
-offset_bounds-answers-i c = search (rules, c.well-formed.1.1.1.1.1.1.1.1.1.1.1.1.1.1.0)
+offset_bounds-answers-i c = search (rules, c.well_formed.1.1.1.1.1.1.1.1.1.1.1.1.1.1.0)
 
 pub bounds-answers-i : goal.bounds-answers-i
-bounds-answers-i c = search (rules, c.well-formed.1.1.1.1.1.1.1.1.1.1.1.1.1.1.0)
+bounds-answers-i c = search (rules, c.well_formed.1.1.1.1.1.1.1.1.1.1.1.1.1.1.0)
 
 pub answer-s-requires : goal.answer-s-requires
 answer-s-requires c = tt
 
 pub overflow_add-i : goal.overflow_add-i
-overflow_add-i c = omega (arith, c.well-formed.1.1.1.1.1.1.1.1.1.1.1.1.1.1.0)
+overflow_add-i c = omega (arith, c.well_formed.1.1.1.1.1.1.1.1.1.1.1.1.1.1.0)
 
 pub loop-i-smaller : goal.loop-i-smaller
 loop-i-smaller c = omega arith

@@ -2,10 +2,6 @@
 use Rattle.machine.proofs.Whole.{answered, answered_at_once}
 use Rattle.machine.proofs.Lent.{judges}
 use Rattle.machine.specs.World.{world_in}
-use Rattle.machine.specs.declared.Phase.TheVariants.{Walk}
-use Rattle.machine.specs.declared.Phase.{Phase}
-use denote.Enum.Declared.{tag_of}
-use types.Run.{OneOf, miss}
 use mathlib.Core.Path.{subst}
 use lib.ListN.{length, length-map}
 use Rattle.lent.specs.Lent.{readings_in}
@@ -13,9 +9,6 @@ use mathlib.Core.List.{[], ◌∷◌, map}
 use native.Mathlib.Omega.{arith}
 use mathlib.Core.Path.{◌≡◌, sym}
 use Rattle.search.proofs.answer.Goals as goal
-
-not-walk : (ph : Phase) → OneOf (1 ∷ 2 ∷ 3 ∷ 4 ∷ 5 ∷ []) (tag_of Rattle.machine.specs.contracts.Phase.the_type ph) → ph ≡ Walk → ⊥
-not-walk ph k h = miss (1 ∷ 2 ∷ 3 ∷ 4 ∷ 5 ∷ []) 0 tt (subst (λ (p : Phase). OneOf (1 ∷ 2 ∷ 3 ∷ 4 ∷ 5 ∷ []) (tag_of Rattle.machine.specs.contracts.Phase.the_type p)) h k)
 
 pub returns-then-s-gt-MOST_INTERMEDIATES : goal.returns-then-s-gt-MOST_INTERMEDIATES
 returns-then-s-gt-MOST_INTERMEDIATES c deep halts = absurd (omega (arith, deep, c.if-s-gt-MOST_INTERMEDIATES.true))
@@ -29,7 +22,7 @@ reply-t-requires c = tt
 pub advance-requires : goal.advance-requires
 advance-requires c =
     let a = c.args in
-    (c.reply-t.ensures (omega (arith, c.if-s-gt-MOST_INTERMEDIATES.false)) (not-walk a.s.phase c.in_default.in_default-own.keys2) (world_in (readings_in a.table.now (map (λ x. x.now) a.issuers.now) a.end.now (length a.subjects.now)) (map (λ x. x.now) a.issuers.now) a.end.now (map (λ x. x.now) a.subjects.now) (map (λ x. x.now) a.keys.now) (map (λ x. x.now) a.constraints.now) a.bound.now (map (λ x. x.now) a.distrusted.now) a.time a.wanted.now a.demanded) (judges (readings_in a.table.now (map (λ x. x.now) a.issuers.now) a.end.now (length a.subjects.now)) (map (λ x. x.now) a.issuers.now) a.end.now (map (λ x. x.now) a.subjects.now) (map (λ x. x.now) a.keys.now) (map (λ x. x.now) a.constraints.now) a.bound.now (map (λ x. x.now) a.distrusted.now) a.time a.wanted.now a.demanded (length a.subjects.now) (sym (length-map a.subjects.now (λ x. x.now))))).deep
+    (c.reply-t.ensures (omega (arith, c.if-s-gt-MOST_INTERMEDIATES.false)) c.in_default.not-Walk (world_in (readings_in a.table.now (map (λ x. x.now) a.issuers.now) a.end.now (length a.subjects.now)) (map (λ x. x.now) a.issuers.now) a.end.now (map (λ x. x.now) a.subjects.now) (map (λ x. x.now) a.keys.now) (map (λ x. x.now) a.constraints.now) a.bound.now (map (λ x. x.now) a.distrusted.now) a.time a.wanted.now a.demanded) (judges (readings_in a.table.now (map (λ x. x.now) a.issuers.now) a.end.now (length a.subjects.now)) (map (λ x. x.now) a.issuers.now) a.end.now (map (λ x. x.now) a.subjects.now) (map (λ x. x.now) a.keys.now) (map (λ x. x.now) a.constraints.now) a.bound.now (map (λ x. x.now) a.distrusted.now) a.time a.wanted.now a.demanded (length a.subjects.now) (sym (length-map a.subjects.now (λ x. x.now))))).deep
 
 pub returns-in-Walk-going : goal.returns-in-Walk-going
 returns-in-Walk-going c deep halts =
@@ -41,4 +34,4 @@ pub returns : goal.returns
 returns c deep halts =
     let a = c.args in
     let W = world_in (readings_in a.table.now (map (λ x. x.now) a.issuers.now) a.end.now (length a.subjects.now)) (map (λ x. x.now) a.issuers.now) a.end.now (map (λ x. x.now) a.subjects.now) (map (λ x. x.now) a.keys.now) (map (λ x. x.now) a.constraints.now) a.bound.now (map (λ x. x.now) a.distrusted.now) a.time a.wanted.now a.demanded in
-    answered_at_once W a.s c.reply-t.result a.given (c.reply-t.ensures deep halts W (judges (readings_in a.table.now (map (λ x. x.now) a.issuers.now) a.end.now (length a.subjects.now)) (map (λ x. x.now) a.issuers.now) a.end.now (map (λ x. x.now) a.subjects.now) (map (λ x. x.now) a.keys.now) (map (λ x. x.now) a.constraints.now) a.bound.now (map (λ x. x.now) a.distrusted.now) a.time a.wanted.now a.demanded (length a.subjects.now) (sym (length-map a.subjects.now (λ x. x.now))))) (not-walk c.reply-t.result.phase c.in_default-going.in_default-going-own.keys2)
+    answered_at_once W a.s c.reply-t.result a.given (c.reply-t.ensures deep halts W (judges (readings_in a.table.now (map (λ x. x.now) a.issuers.now) a.end.now (length a.subjects.now)) (map (λ x. x.now) a.issuers.now) a.end.now (map (λ x. x.now) a.subjects.now) (map (λ x. x.now) a.keys.now) (map (λ x. x.now) a.constraints.now) a.bound.now (map (λ x. x.now) a.distrusted.now) a.time a.wanted.now a.demanded (length a.subjects.now) (sym (length-map a.subjects.now (λ x. x.now))))) c.in_default-going.not-Walk

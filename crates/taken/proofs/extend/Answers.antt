@@ -9,12 +9,6 @@ use mathlib.Core.Path.{◌≡◌, ◌∙◌}
 use borrow.Author.Rules.{rules}
 use Rattle.taken.proofs.extend.Goals as goal
 
-long_path : (c : tie.Start) → length c.args.s.path ≡ 7
-long_path c = search rules
-
-long-next : (c : tie.Start) → length c.args.s.next ≡ 7
-long-next c = search rules
-
 pub returns-then-extensions-eq0 : goal.returns-then-extensions-eq0
 returns-then-extensions-eq0 c deep walks W h = extend-out W c.args.s deep c.args.i walks c.if-extensions-eq0.true
 
@@ -24,15 +18,17 @@ returns-then-depth-ge-MOST_INTERMEDIATES c deep walks W h = extend-deep W c.args
 pub returns-then-e-ne0 : goal.returns-then-e-ne0
 returns-then-e-ne0 c deep walks W h =
     let a = c.args in
+    let long_path : length c.args.s.path ≡ 7 = search rules in
     let room = c.if-depth-ge-MOST_INTERMEDIATES.false in
     extend-refused W a.s deep a.i walks c.if-extensions-eq0.false c.check-e.result c.worse-b-then-e-ne0.result c.worse-b-then-e-ne0.ensures (λ q. omega (arith, room, q))
-    (checks_push W (readings_in a.table.now (map (λ x. x.now) a.issuers.now) a.end.now a.anchors) (map (λ x. x.now) a.issuers.now) a.end.now a.anchors (map (λ x. x.now) a.distrusted.now) a.time a.wanted.now a.demanded h a.s.path a.s.depth a.i c.check-e.result (omega (arith, long_path c.before.before.before.before.before.before.before.before.before.before.before, room)) c.check-e.ensures)
+    (checks_push W (readings_in a.table.now (map (λ x. x.now) a.issuers.now) a.end.now a.anchors) (map (λ x. x.now) a.issuers.now) a.end.now a.anchors (map (λ x. x.now) a.distrusted.now) a.time a.wanted.now a.demanded h a.s.path a.s.depth a.i c.check-e.result (omega (arith, long_path, room)) c.check-e.ensures)
     c.if-e-ne0.true
 
 pub returns : goal.returns
 returns c deep walks W h =
     let a = c.args in
+    let long_path : length c.args.s.path ≡ 7 = search rules in
     let room = c.if-depth-ge-MOST_INTERMEDIATES.false in
-    extend-goes W a.s deep a.i walks c.if-extensions-eq0.false (long_path c.before.before.before.before.before.before.before.before) (long-next c.before.before.before.before.before.before.before.before) (λ q. omega (arith, room, q))
-    (checks_push W (readings_in a.table.now (map (λ x. x.now) a.issuers.now) a.end.now a.anchors) (map (λ x. x.now) a.issuers.now) a.end.now a.anchors (map (λ x. x.now) a.distrusted.now) a.time a.wanted.now a.demanded h a.s.path a.s.depth a.i c.check-e.result (omega (arith, long_path c.before.before.before.before.before.before.before.before, room)) c.check-e.ensures
+    extend-goes W a.s deep a.i walks c.if-extensions-eq0.false long_path (search rules) (λ q. omega (arith, room, q))
+    (checks_push W (readings_in a.table.now (map (λ x. x.now) a.issuers.now) a.end.now a.anchors) (map (λ x. x.now) a.issuers.now) a.end.now a.anchors (map (λ x. x.now) a.distrusted.now) a.time a.wanted.now a.demanded h a.s.path a.s.depth a.i c.check-e.result (omega (arith, long_path, room)) c.check-e.ensures
     ∙ c.if-e-ne0.false)

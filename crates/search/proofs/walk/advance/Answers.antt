@@ -2,11 +2,7 @@
 use Rattle.dialogue.specs.Dialogue.{follow}
 use Rattle.machine.specs.World.{world_in}
 use Rattle.machine.specs.Machine.{Ran, move}
-use Rattle.machine.specs.declared.Phase.TheVariants.{Walk}
-use Rattle.machine.specs.declared.Phase.{Phase}
 use mathlib.Core.Path.{subst}
-use denote.Enum.Declared.{tag_of}
-use types.Run.{OneOf, miss}
 use Prim.Native.Nat.{ℕ, suc}
 use Rattle.lent.specs.Lent.{readings_in}
 use lib.ListN.{length}
@@ -14,9 +10,6 @@ use mathlib.Core.List.{List, [], ◌∷◌, map, append-nil}
 use native.Mathlib.Omega.{arith}
 use mathlib.Core.Path.{◌≡◌, refl, sym, ◌∙◌}
 use Rattle.search.proofs.walk.advance.Goals as goal
-
-not-walk : (ph : Phase) → OneOf (1 ∷ 2 ∷ 3 ∷ 4 ∷ 5 ∷ []) (tag_of Rattle.machine.specs.contracts.Phase.the_type ph) → ph ≡ Walk → ⊥
-not-walk ph k h = miss (1 ∷ 2 ∷ 3 ∷ 4 ∷ 5 ∷ []) 0 tt (subst (λ (p : Phase). OneOf (1 ∷ 2 ∷ 3 ∷ 4 ∷ 5 ∷ []) (tag_of Rattle.machine.specs.contracts.Phase.the_type p)) h k)
 
 pub loop-t-init : goal.loop-t-init
 loop-t-init c = (c.requires, record { same = refl; most = omega arith; ran = λ s₀ said n h. (n, h) })
@@ -49,6 +42,6 @@ returns-in_default c =
       same = i.1.same;
       deep = i.0;
       most = i.1.most;
-      halts = not-walk c.loop-t.t.phase c.in_default.in_default-own.keys2;
+      halts = c.in_default.not-Walk;
       ran = λ s₀ said n h. let k = i.1.ran s₀ said n h in (k.0, subst (λ (l : List ℕ). Ran W s₀ c.loop-t.t l k.0) (sym (append-nil said)) k.1);
     }

@@ -11,9 +11,6 @@ use mathlib.Core.Path.{◌≡◌, sym, ap, ◌∙◌}
 use borrow.Author.Rules.{rules}
 use Rattle.search.proofs.walk.move_on.Goals as goal
 
-long : (c : tie.Start) → length c.args.s.next ≡ 7
-long c = search rules
-
 pub leave-requires : goal.leave-requires
 leave-requires c = c.requires
 
@@ -41,7 +38,7 @@ returns-in-Pass c =
     let a = c.args in
     let p = c.requires in
     let W = world_in (readings_in a.table.now (map (λ x. x.now) a.issuers.now) a.end.now (length a.subjects.now)) (map (λ x. x.now) a.issuers.now) a.end.now (map (λ x. x.now) a.subjects.now) (map (λ x. x.now) a.keys.now) (map (λ x. x.now) a.constraints.now) a.bound.now (map (λ x. x.now) a.distrusted.now) a.time a.wanted.now a.demanded in
-    notes W a.s p.0 p.1 (omega (arith, c.if-anchors-issuers.false, length-map a.subjects.now (λ x. x.now), length-map a.issuers.now (λ x. x.now))) (long c.before.before.before.before.before.before.before.before.before.before.before.before) c.note.result _ c.note.ensures (sym c.verdict_on.ensures ∙ c.in-Pass.is)
+    notes W a.s p.0 p.1 (omega (arith, c.if-anchors-issuers.false, length-map a.subjects.now (λ x. x.now), length-map a.issuers.now (λ x. x.now))) (search rules) c.note.result _ c.note.ensures (sym c.verdict_on.ensures ∙ c.in-Pass.is)
 
 pub returns-in-Anchor : goal.returns-in-Anchor
 unfolding world_in
@@ -49,7 +46,7 @@ returns-in-Anchor c =
     let a = c.args in
     let p = c.requires in
     let W = world_in (readings_in a.table.now (map (λ x. x.now) a.issuers.now) a.end.now (length a.subjects.now)) (map (λ x. x.now) a.issuers.now) a.end.now (map (λ x. x.now) a.subjects.now) (map (λ x. x.now) a.keys.now) (map (λ x. x.now) a.constraints.now) a.bound.now (map (λ x. x.now) a.distrusted.now) a.time a.wanted.now a.demanded in
-    tries W a.s p.0 p.1 (omega (arith, c.if-anchors-issuers.false, length-map a.subjects.now (λ x. x.now), length-map a.issuers.now (λ x. x.now))) (long c.before.before.before.before.before.before.before.before.before.before.before) c.anchor.result (sym c.verdict_on.ensures ∙ c.in-Anchor.is) (c.anchor.ensures p.0 W)
+    tries W a.s p.0 p.1 (omega (arith, c.if-anchors-issuers.false, length-map a.subjects.now (λ x. x.now), length-map a.issuers.now (λ x. x.now))) (search rules) c.anchor.result (sym c.verdict_on.ensures ∙ c.in-Anchor.is) (c.anchor.ensures p.0 W)
 
 pub returns-in-Extend : goal.returns-in-Extend
 unfolding world_in
@@ -57,5 +54,5 @@ returns-in-Extend c =
     let a = c.args in
     let p = c.requires in
     let W = world_in (readings_in a.table.now (map (λ x. x.now) a.issuers.now) a.end.now (length a.subjects.now)) (map (λ x. x.now) a.issuers.now) a.end.now (map (λ x. x.now) a.subjects.now) (map (λ x. x.now) a.keys.now) (map (λ x. x.now) a.constraints.now) a.bound.now (map (λ x. x.now) a.distrusted.now) a.time a.wanted.now a.demanded in
-    extends W a.s p.0 p.1 (omega (arith, c.if-anchors-issuers.false, length-map a.subjects.now (λ x. x.now), length-map a.issuers.now (λ x. x.now))) (long c.before.before.before.before.before.before.before.before.before.before.before) c.extend.result (sym c.verdict_on.ensures ∙ c.in-Extend.is)
+    extends W a.s p.0 p.1 (omega (arith, c.if-anchors-issuers.false, length-map a.subjects.now (λ x. x.now), length-map a.issuers.now (λ x. x.now))) (search rules) c.extend.result (sym c.verdict_on.ensures ∙ c.in-Extend.is)
     (c.extend.ensures p.0 p.1 W (λ q. ap (λ (n : ℕ). check_in (readings_in a.table.now (map (λ x. x.now) a.issuers.now) a.end.now (length a.subjects.now)) (map (λ x. x.now) a.issuers.now) a.end.now n (map (λ x. x.now) a.distrusted.now) a.time a.wanted.now a.demanded q) (length-map a.subjects.now (λ x. x.now))))

@@ -17,10 +17,13 @@ def brought(line):
 
 
 def mentioned(name, text):
-    sign = name.strip('_') if name.startswith('_') else name
+    return all(sign == '[]' and sign in text or stands(sign, text) for sign in name.split('◌') if sign)
+
+
+def stands(sign, text):
     if re.search(r'\w', sign):
         return re.search(f'(?<!{NAME}){re.escape(sign)}(?!{NAME})', text)
-    return sign in text if sign == '[]' else re.search(rf'(?<![^\s(_]){re.escape(sign)}(?![^\s)_])', text)
+    return re.search(rf'(?<![^\s(◌]){re.escape(sign)}(?![^\s)◌])', text)
 
 
 unused = []

@@ -1,4 +1,3 @@
-use Prim.Native.Nat.{◌-◌}
 use mathlib.Core.Path.{sym, ◌∙◌}
 use Rattle.der.proofs.Loop.{start, turn, stop, finish}
 use Rattle.checks.specs.Model.{no_purpose, purpose_in}

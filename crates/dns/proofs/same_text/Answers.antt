@@ -1,5 +1,4 @@
 -- `dns::same_text` meets its contract: what is left of the two texts compares as the whole. Assumes nothing.
-use Prim.Native.Nat.{◌-◌}
 use mathlib.Core.Path.{refl, sym, ◌∙◌}
 use Rattle.dns.proofs.Laws.{same_length, same_turn, same_differ, same_end}
 use native.Mathlib.Omega.{arith}

@@ -1,5 +1,4 @@
 -- `ip::in_subnet` meets its contract: what is left of the three has the answer of the whole. Assumes nothing.
-use Prim.Native.Nat.{◌-◌}
 use mathlib.Core.Path.{refl, sym, ◌∙◌}
 use Rattle.ip.proofs.Laws.{subnet_turn, subnet_differs, subnet_broken, subnet_end}
 use native.Mathlib.Omega.{arith}

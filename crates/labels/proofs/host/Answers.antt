@@ -1,5 +1,4 @@
 -- `labels::host` meets its contract: what is left of the text, with the label so far, has the answer of the whole. Assumes nothing.
-use Prim.Native.Nat.{◌-◌}
 use mathlib.Core.Path.{refl, sym, ◌∙◌}
 use Rattle.labels.specs.Model.{host_text}
 use Rattle.labels.proofs.Laws.{host_turn, host_bad, host_end}

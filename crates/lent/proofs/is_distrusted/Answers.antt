@@ -1,4 +1,3 @@
-use Prim.Native.Nat.{◌-◌}
 use mathlib.Core.Path.{refl, sym, ◌∙◌}
 use Rattle.lent.proofs.Laws.{listed_turn, listed_found, listed_end}
 use native.Mathlib.Omega.{arith}

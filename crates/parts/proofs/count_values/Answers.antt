@@ -1,5 +1,4 @@
 use native.Mathlib.Omega.{arith}
-use Prim.Native.Nat.{◌-◌}
 use mathlib.Core.Path.{sym, ◌∙◌}
 use Rattle.der.proofs.Loop.{start, turn, stop, finish}
 use Rattle.der.proofs.Theorems.{value_places}

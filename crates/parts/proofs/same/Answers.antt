@@ -1,5 +1,4 @@
 use native.Mathlib.Omega.{arith}
-use Prim.Native.Nat.{◌-◌}
 use mathlib.Core.Path.{sym, ◌∙◌}
 use Rattle.der.proofs.Laws.{tests, in_part, left_falls}
 use Rattle.parts.specs.Model.{same_parts}

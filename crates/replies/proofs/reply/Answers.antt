@@ -1,12 +1,6 @@
 -- `replies::reply` meets its contract. Assumes nothing.
 use Rattle.machine.proofs.Moves.{idle}
-use Rattle.machine.specs.declared.Phase.TheVariants.{Ask, Offer}
-use Rattle.machine.specs.declared.Phase.{Phase}
-use denote.Enum.Declared.{tag_of}
 use native.Mathlib.Omega.{arith}
-use mathlib.Core.Path.{subst}
-use mathlib.Core.List.{[], ◌∷◌}
-use mathlib.Core.Path.{◌≡◌}
 use Rattle.replies.proofs.reply.Goals as goal
 
 pub returns-then-s-gt-MOST_INTERMEDIATES : goal.returns-then-s-gt-MOST_INTERMEDIATES

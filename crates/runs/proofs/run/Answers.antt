@@ -1,5 +1,4 @@
 -- `runs::run` meets its contract. Assumes nothing.
-use Prim.Native.Nat.{◌-◌}
 use lib.Seq.{take_all}
 use native.Mathlib.Omega.{arith}
 use borrow.Author.Rules.{rules}

@@ -2,12 +2,11 @@
 use Rattle.machine.proofs.Whole.{answered, answered_at_once}
 use Rattle.machine.proofs.Lent.{judges}
 use Rattle.machine.specs.World.{world_in}
-use mathlib.Core.Path.{subst}
 use lib.ListN.{length, length-map}
 use Rattle.lent.specs.Lent.{readings_in}
-use mathlib.Core.List.{[], ◌∷◌, map}
+use mathlib.Core.List.{map}
 use native.Mathlib.Omega.{arith}
-use mathlib.Core.Path.{◌≡◌, sym}
+use mathlib.Core.Path.{sym}
 use Rattle.search.proofs.answer.Goals as goal
 
 pub returns-then-s-gt-MOST_INTERMEDIATES : goal.returns-then-s-gt-MOST_INTERMEDIATES

@@ -1,5 +1,4 @@
 -- `subtrees::alternatives` meets its contract: what is left of the walk, with what is left of the budget, has the answer of the whole. Assumes nothing.
-use Prim.Native.Nat.{◌-◌}
 use mathlib.Core.Path.{sym, ◌∙◌}
 use native.Mathlib.Omega.{arith}
 use Rattle.der.specs.Places.{part}

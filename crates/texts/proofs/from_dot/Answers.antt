@@ -1,5 +1,4 @@
 -- `texts::from_dot` meets its contract: what is left of the text has the same first dot. Assumes nothing.
-use Prim.Native.Nat.{◌-◌}
 use mathlib.Core.Path.{refl, ◌∙◌}
 use Rattle.texts.proofs.Laws.{rest_all, dot_here, dot_turn, dot_end}
 use native.Mathlib.Omega.{arith}

@@ -1,5 +1,4 @@
 -- `names::general::good_for` meets its contract: the rest of the walk has the answer of the whole. Assumes nothing.
-use Prim.Native.Nat.{◌-◌}
 use mathlib.Core.Path.{sym, ◌∙◌}
 use Rattle.der.proofs.Loop.{start, turn, stop, finish}
 use Rattle.names.specs.Model.{try_name, good_for}

@@ -6,9 +6,9 @@ use mathlib.Core.Path.{subst}
 use Prim.Native.Nat.{ℕ, suc}
 use Rattle.lent.specs.Lent.{readings_in}
 use lib.ListN.{length}
-use mathlib.Core.List.{List, [], ◌∷◌, map, append-nil}
+use mathlib.Core.List.{List, map, append-nil}
 use native.Mathlib.Omega.{arith}
-use mathlib.Core.Path.{◌≡◌, refl, sym, ◌∙◌}
+use mathlib.Core.Path.{refl, sym, ◌∙◌}
 use Rattle.search.proofs.walk.advance.Goals as goal
 
 pub loop-t-init : goal.loop-t-init

@@ -7,7 +7,7 @@ use Prim.Native.Nat.{ℕ}
 use Rattle.lent.specs.Lent.{readings_in}
 use mathlib.Core.List.{map}
 use native.Mathlib.Omega.{arith}
-use mathlib.Core.Path.{◌≡◌, sym, ap, ◌∙◌}
+use mathlib.Core.Path.{sym, ap, ◌∙◌}
 use borrow.Author.Rules.{rules}
 use Rattle.search.proofs.walk.move_on.Goals as goal
 

@@ -9,7 +9,7 @@ top = pathlib.Path(__file__).resolve().parent.parent
 LENDS = 'conditions/specs/Conditions.antt:Lends'
 GROUPS = {
     'the decision': ['judge/specs/Decides.antt:Decides', 'judge/specs/Asks.antt:Asks', LENDS],
-    '6.1 accepts': ['conditions/specs/RfcAccepts.antt:accepts-type'],
+    '6.1 accepts': ['conditions/specs/RfcAccepts.antt:AcceptsType'],
     'the account': ['judge/specs/Accounts.antt:Accounts', LENDS],
 }
 NO_MODEL = {'the decision', '6.1 accepts'}
@@ -24,7 +24,7 @@ class File:
         for line in path.read_text().splitlines():
             if not line.strip() or line.lstrip().startswith('--'):
                 continue
-            if u := re.match(r'use Rattle·(\w+?)(?:·specs\.specs|\.specs)\.([\w.]+?)\.\{(.*)\}', line):
+            if u := re.match(r'use Rattle\.(\w+?)\.specs\.([\w.]+?)\.\{(.*)\}', line):
                 file = top / 'crates' / u[1] / 'specs' / (u[2].split('.')[-1] + '.antt')
                 for name in u[3].split(','):
                     said, _, known = name.strip().partition(' as ')
@@ -71,7 +71,7 @@ def believed(statements):
     return count
 
 
-crates = [l.split(':')[0] for l in (top / 'crates.txt').read_text().splitlines() if ':' in l and not l.startswith('#')]
+crates = [l.split(':')[0].split()[0] for l in (top / 'crates.txt').read_text().splitlines() if ':' in l and not l.startswith('#')]
 groups = {'lines': sys.argv[1:]} if sys.argv[1:] else GROUPS
 counts = {name: believed(statements) for name, statements in groups.items()}
 print('| file |' + ''.join(f' {name} |' for name in counts) + '\n|---|' + '---:|' * len(counts))

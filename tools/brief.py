@@ -1,5 +1,5 @@
 #!/usr/bin/env python3
-# Shortens what the prover says: no notes, no text of proved functions, short names. Usage: rt dev NAME 2>&1 | tools/brief.py
+# Shortens what the prover says: no notes, no text of proved functions, short names. Usage, in a crate's folder: rt check 2>&1 | ../../tools/brief.py
 # A line is cut at CUT characters (600 where it is not set).
 import os, re, sys
 
@@ -10,8 +10,8 @@ SHORT = ('Prim.Native.Nat.', 'lib.ListN.', 'lib.Dec.', 'mir.Val.', 'mir.Syntax.'
 def shorten(line):
     for name in SHORT:
         line = line.replace(name, '')
-    line = re.sub(r'Rattle·\w+·(?:proofs\.proofs|specs\.specs)\.', '', line)
-    line = re.sub(r'(?: \.before){3,}', lambda m: ' .before^%d' % (len(m.group()) // 8), line)
+    line = re.sub(r'Rattle\.\w+\.(?:proofs|specs)\.', '', line)
+    line = re.sub(r'(?:\.before){3,}', lambda m: '.before^%d' % (len(m.group()) // 7), line)
     return line[:int(os.environ.get('CUT', '600'))]
 
 

@@ -12,6 +12,6 @@ for name; do
         "| $(find "$at/src" -name '*.rt' | lines)" \
         "| $(find "$at/specs" -name '*.antt' ! \( $model \) 2>/dev/null | lines)" \
         "| $(find "$at/specs" \( $model \) 2>/dev/null | lines)" \
-        "| $(find "$at/proofs" -name '*.antt' ! -name Proof.antt 2>/dev/null | lines)" \
-        "| $(find "$at/proofs" -name Proof.antt 2>/dev/null | lines) |"
+        "| $(find "$at/proofs" -maxdepth 1 -name '*.antt' 2>/dev/null | lines)" \
+        "| $(find "$at/proofs" -mindepth 2 -name '*.antt' 2>/dev/null | lines) |"
 done

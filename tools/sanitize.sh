@@ -16,7 +16,7 @@ run() {
 driver() { # NAME FLAGS..: the C program, built as NAME
     name=$1
     shift
-    cc -std=c11 -g "$@" -Iinclude -o "$out/$name" rust/pathjudge/tests/header.c target/staticlib/libjudge.a
+    cc -std=c11 -g "$@" -Iinclude -o "$out/$name" rust/pathjudge/tests/header.c crates/judge/out/libjudge.a
 }
 # A given target keeps the flags away from the build script, and the runner away from cargo.
 rust_tests() { # NAME WORDS..

@@ -1,4 +1,4 @@
-//! Links the proved decision: target/staticlib/libjudge.a, built by `rt staticlib judge` where it is not there yet or is older than some crate's code.
+//! Links the proved decision: crates/judge/out/libjudge.a, built by `rt lib` in crates/judge where it is not there yet or is older than some crate's code.
 use std::path::{Path, PathBuf};
 use std::process::Command;
 use std::time::SystemTime;
@@ -35,17 +35,17 @@ fn is_stale(library: &Path, repository: &Path) -> io::Result<bool> {
 }
 
 fn build(repository: &Path) -> Result<(), String> {
-    match Command::new("rt").args(["staticlib", "judge"]).current_dir(repository).status() {
+    match Command::new("rt").arg("lib").current_dir(repository.join("crates/judge")).status() {
         Ok(status) if status.success() => Ok(()),
-        Ok(status) => Err(format!("`rt staticlib judge` ended with {status}: the library is not proved, or could not be built")),
-        Err(e) => Err(format!("target/staticlib/libjudge.a is missing or old, and `rt`, which builds it, could not be started ({e}): is the Rattle kit on the PATH?")),
+        Ok(status) => Err(format!("`rt lib` in crates/judge ended with {status}: the library is not proved, or could not be built")),
+        Err(e) => Err(format!("crates/judge/out/libjudge.a is missing or old, and `rt`, which builds it, could not be started ({e}): is the Rattle kit on the PATH?")),
     }
 }
 
 fn main() {
     let crate_folder = std::env::var("CARGO_MANIFEST_DIR").expect("cargo sets it");
     let repository = Path::new(&crate_folder).ancestors().nth(2).expect("the crate stands in rust/ of the repository");
-    let folder = repository.join("target/staticlib");
+    let folder = repository.join("crates/judge/out");
     let library = folder.join("libjudge.a");
     let made = match is_stale(&library, repository) {
         Ok(false) => Ok(()),

@@ -19,7 +19,7 @@ pub fn printed(name: &str) -> Option<String> {
         .arg("-o")
         .arg(&program)
         .arg(here.join("tests").join(name).with_extension("c"))
-        .arg(repository.join("target/staticlib/libjudge.a"))
+        .arg(repository.join("crates/judge/out/libjudge.a"))
         .output();
     let compiled = match compiled {
         Ok(compiled) => compiled,

@@ -2,7 +2,7 @@
 """Respells this repository's own definitions and lemmas: snake case for functions, lemmas, fields and constructors, camel case for types.
 
 It was run once, after the kit's port.py, on what that had made: docs/PORT.md. Functions of src/ keep their names.
-Usage: tools/port_names.py ROOT [--dry] [--map FILE]
+Usage: tools/port_names.py ROOT [--inner] [--dry] [--map FILE]
 """
 import collections, json, pathlib, re, sys
 
@@ -11,6 +11,8 @@ dry = '--dry' in sys.argv
 TOKEN = re.compile(r"[A-Za-z_][\w'-]*")
 DECLARED = re.compile(r"^((?:abbrev |unfoldable |pub )*)(record |data |ruleset )?([A-Za-z_][\w'-]*) *(?:[({].*)?:(.*)$")
 FIELD = re.compile(r"^  (?:pub )?([a-z][\w'-]*)((?: [a-z][\w'-]*)*) :")
+INNER = re.compile(r"^ +(?:abbrev |unfoldable |pub )*([a-z][\w'-]*)((?: [a-z][\w'-]*)*) *(?:[({].*)?:")  # with --inner: in modules, and what is declared there
+inner = '--inner' in sys.argv
 TYPES = re.compile(r"(→|:) Type 0\s*$")
 
 
@@ -31,17 +33,20 @@ def files():
 
 own, where = {}, {}
 for path in files():
-    if path.suffix != '.antt' or path.name == 'Proof.antt':
+    if path.suffix != '.antt' or path.name in ('Proof.antt', 'Invariants.antt') or path.name == 'Answers.antt' and 'proofs' in path.parts:
         continue
     for line in path.read_text().split('\n'):
-        if line.startswith(('--', 'use ', 'pub use', 'mod ', 'pub mod', 'unfolding')) or not line:
+        if inner and (m := re.match(r'\s*use .*\{(.*)\}', line)):
+            for name in re.findall(r' as ([a-z][\w]*-[\w-]*)', m[1]):
+                own[name] = snake(name)
+        if re.match(r'\s*(--|(pub )?(use|mod) |unfolding )', line) or not line:
             continue
         if (m := DECLARED.match(line)) and not line.startswith(' '):
             name = m[3]
             if not name[0].isupper():
                 own[name] = camel(name) if TYPES.search(line) and not m[2] else snake(name)
                 where.setdefault(name, path)
-        elif m := FIELD.match(line):
+        elif m := (INNER if inner else FIELD).match(line):
             for name in [m[1], *m[2].split()]:
                 own.setdefault(name, snake(name))
                 where.setdefault(name, path)
@@ -50,9 +55,9 @@ own = {a: b for a, b in own.items() if a != b}
 # A lemma that would have its function's name ends in `_lem`; the other names below would fall together too.
 camels = {snake(a) for a in own if '-' not in a}
 own |= {a: snake(a) + '_lem' for a in own if '-' in a and snake(a) in camels}
-own |= {name: snake(name) + '_lem' for name in ('is-yes', 'kind-of', 'go_on', 'same_parts')}
-own |= {'accepts-type': 'AcceptsType', 'of-certificate': 'from_certificate', 'authority-key': 'authority_key', 'authorityKey': 'authority_key_extension', 'subject-key': 'subject_key',
-        'subjectKey': 'subject_key_extension', 'of-kind': 'has_kind', 'constraints-in': 'constraints_in', 'known-at': 'known_is', 'list_at': 'list_is',
+own |= {name: snake(name) + '_lem' for name in ('is-yes', 'kind-of', *([] if inner else ['go_on', 'same_parts']))}
+own |= {'accepts-type': 'AcceptsType', 'cRLDistributionPoints': 'crl_distribution_points', **({'c_rldistribution_points': 'crl_distribution_points'} if inner else {}), 'of-certificate': 'from_certificate', 'authority-key': 'authority_key', 'authorityKey': 'authority_key_extension', 'subject-key': 'subject_key',
+        'subjectKey': 'subject_key_extension', 'of-kind': 'has_kind', 'constraints-in': 'constraints_in', 'known-at': 'known_is', **({} if inner else {'list_at': 'list_is'}),
         'on-path': 'is_on_path', 'key-at': 'key_place'}
 ANTT_ONLY = {'go_on', 'same_parts', 'list_at'}
 

@@ -169,14 +169,14 @@ pub flag_bit : (s : List ℕ) (from to k : ℕ) → to ≤ length s → flag_at 
 unfolding bit
 flag_bit s from to k h =
     ⊎_elim
-    (λ (l : k / 8 < to - from). flag-some l)
+    (λ (l : k / 8 < to - from). flag_some l)
     (λ (l : to - from ≤ k / 8).
     let n : length (part s from to) ≤ k / 8 = omega (arith, part_length s from to h) in
     flag_none s from to k h l ∙ rw (get_or-eq_default (part s from to) 0 n, zero-div))
     (lt_or_le (k / 8) (to - from))
   where
-    flag-some : k / 8 < to - from → flag_at s from to k ≡ eqb ((get_or (part s from to) (k / 8) 0 / 2 ^ (7 - k % 8)) % 2) 1
-    flag-some l =
+    flag_some : k / 8 < to - from → flag_at s from to k ≡ eqb ((get_or (part s from to) (k / 8) 0 / 2 ^ (7 - k % 8)) % 2) 1
+    flag_some l =
         let m : from < to = omega arith in
         rw (part_at s from to (k / 8) l) (some_flag s from to k h m l)
 

@@ -39,29 +39,29 @@ module _ (subjects keys : List (Bor (List ℕ))) (constraints : List (List ℕ))
 -- ---- a path in an array
 module _ (known : ℕ → Reading) (issuers : List (List ℕ)) (end : List ℕ) (path : List ℕ) (d : ℕ) where
   module _ (subjects keys constraints : List (List ℕ)) (bound : List ℕ) (distrusted : List (List ℕ)) (i : ℕ) where
-    pub verdict-deep : 6 < d → Pass maximum_path_depth_exceeded ≡ verdict_in known issuers end subjects keys constraints bound distrusted (pre path d) i
+    pub verdict_deep : 6 < d → Pass maximum_path_depth_exceeded ≡ verdict_in known issuers end subjects keys constraints bound distrusted (pre path d) i
     unfolding verdict_in depth_of
-    verdict-deep h = simp (lower_length path d, le-leb 7 d h)
+    verdict_deep h = simp (lower_length path d, le-leb 7 d h)
 
     module _ {anchors n : ℕ} {s : List ℕ} (count : anchors ≡ length subjects) (few : d ≤ 6) (at : n ≡ get_or path d 0) (is : s ≡ certificate_of issuers end anchors n) where
       reads : {x : Outlined} → outlined (known n) ≡ x → outlined (known (get_or path d 0)) ≡ x
       reads e = rw (← at) e
 
-      pub verdict-refused : {e : ℕ} → outlined (known n) ≡ NoOutline e → Pass e ≡ verdict_in known issuers end subjects keys constraints bound distrusted (pre path d) i
+      pub verdict_refused : {e : ℕ} → outlined (known n) ≡ NoOutline e → Pass e ≡ verdict_in known issuers end subjects keys constraints bound distrusted (pre path d) i
       unfolding verdict_in newest depth_of on_outline
-      verdict-refused r = simp (lower_length path d, lt-leb 7 d (omega arith), reads r)
+      verdict_refused r = simp (lower_length path d, lt-leb 7 d (omega arith), reads r)
 
-      pub verdict-anchor : {o : Outline} → outlined (known n) ≡ Is o → i < anchors
+      pub verdict_anchor : {o : Outline} → outlined (known n) ≡ Is o → i < anchors
           → anchor_at subjects keys constraints bound distrusted s o.issuer i ≡ verdict_in known issuers end subjects keys constraints bound distrusted (pre path d) i
       unfolding verdict_in newest depth_of on_outline
-      verdict-anchor r h =
+      verdict_anchor r h =
           let l : i < length subjects = omega arith in
           simp (is, at, count, lower_length path d, lt-leb 7 d (omega arith), reads r, lt-ltb i (length subjects) l)
 
-      pub verdict-issuer : {o : Outline} {t : List ℕ} {g : Outlined} → outlined (known n) ≡ Is o → anchors ≤ i → t ≡ certificate_of issuers end anchors i → g ≡ outlined (known i)
+      pub verdict_issuer : {o : Outline} {t : List ℕ} {g : Outlined} → outlined (known n) ≡ Is o → anchors ≤ i → t ≡ certificate_of issuers end anchors i → g ≡ outlined (known i)
           → issuer_verdict_in known issuers end anchors (pre path d) s o.issuer t g ≡ verdict_in known issuers end subjects keys constraints bound distrusted (pre path d) i
       unfolding verdict_in newest depth_of on_outline
-      verdict-issuer r h e g =
+      verdict_issuer r h e g =
           let l : length subjects ≤ i = omega arith in
           simp (is, at, e, g, count, lower_length path d, lt-leb 7 d (omega arith), reads r, le-ltb i (length subjects) l)
 

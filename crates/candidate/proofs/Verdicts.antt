@@ -76,20 +76,20 @@ module _ (s : List ℕ) (b : Bytes s) (c : Certificate) (r : read_certificate s 
     abbrev Once : List ℕ → Type 0
     Once path = (n : ℕ) → Memᴰ n path → (o : Contents) → Reads (certificate_of issuers end anchors n) o → Same (contents_of s c) o → ⊥
 
-    once-sound : (path : List ℕ) → on_path issuers end anchors s c.subject c.key path ≡ false → Once path
+    once_sound : (path : List ℕ) → on_path issuers end anchors s c.subject c.key path ≡ false → Once path
     unfolding on_path_in some_of
-    once-sound [] e n m o x y = Memᴰ.not-nil m
-    once-sound (k ∷ ks) e n m o x y =
+    once_sound [] e n m o x y = Memᴰ.not-nil m
+    once_sound (k ∷ ks) e n m o x y =
         let p = peel (has_both s c.subject c.key (certificate_of issuers end anchors k)) e (λ z. false_true (sym z)) in
         ⊎_elim
         (λ (z : n ≡ k). false_true (sym p.0 ∙ same_both (certificate_of issuers end anchors k) (bs k) o (rw z at x) y))
-        (λ z. once-sound ks p.1 n z o x y)
+        (λ z. once_sound ks p.1 n z o x y)
         (Memᴰ.cases_cons m)
 
-    once-complete : (path : List ℕ) → Once path → on_path issuers end anchors s c.subject c.key path ≡ false
+    once_complete : (path : List ℕ) → Once path → on_path issuers end anchors s c.subject c.key path ≡ false
     unfolding on_path_in some_of
-    once-complete [] f = refl
-    once-complete (k ∷ ks) f = go (has_both s c.subject c.key (certificate_of issuers end anchors k)) refl (once-complete ks (λ n m. f n (Memᴰ.tail m)))
+    once_complete [] f = refl
+    once_complete (k ∷ ks) f = go (has_both s c.subject c.key (certificate_of issuers end anchors k)) refl (once_complete ks (λ n m. f n (Memᴰ.tail m)))
       where
         go : (v : Bool) → has_both s c.subject c.key (certificate_of issuers end anchors k) ≡ v → on_path issuers end anchors s c.subject c.key ks ≡ false
             → cond v true (on_path issuers end anchors s c.subject c.key ks) ≡ false
@@ -156,11 +156,11 @@ module _ (issuers : List (List ℕ)) (end : List ℕ) (subjects keys constraints
         few = few_places path (leb-false _ _ p.0);
         candidate = ltb-false _ _ r.0;
         head = contents_of head h;
-        newest-is = reads_certificate head (bs (newest path)) (contents_of head h) (h, q.1, refl);
+        newest_is = reads_certificate head (bs (newest path)) (contents_of head h) (h, q.1, refl);
         next = contents_of s c;
         next_is = reads_certificate s (bs i) (contents_of s c) (c, t.1, refl);
         chained = same_fields s head c.subject h.issuer u.0;
-        once = λ n m o z y. once-sound s (bs i) c t.1 issuers end (length subjects) bs path v.0 n m o (certificate_reads _ o z) y;
+        once = λ n m o z y. once_sound s (bs i) c t.1 issuers end (length subjects) bs path v.0 n m o (certificate_reads _ o z) y;
       }
 
   pub extend_complete : Extends issuers end subjects keys distrusted path i → verdict_on issuers end subjects keys constraints bound distrusted path i ≡ Extend
@@ -168,7 +168,7 @@ module _ (issuers : List (List ℕ)) (end : List ℕ) (subjects keys constraints
   extend_complete x =
       let head = certificate_of issuers end (length subjects) (newest path) in
       let s = certificate_of issuers end (length subjects) i in
-      let top = certificate_reads head x.head x.newest-is in
+      let top = certificate_reads head x.head x.newest_is in
       let new = certificate_reads s x.next x.next_is in
       let h = top.0 in
       let c = new.0 in
@@ -176,7 +176,7 @@ module _ (issuers : List (List ℕ)) (end : List ℕ) (subjects keys constraints
       let k = read_inside s (bs i) true c new.1 in
       let f : at s c.subject ≡ at head h.issuer = ap (λ (y : Contents). y.subject) new.2 ∙ x.chained ∙ sym (ap (λ (y : Contents). y.issuer) top.2) in
       let g = same_equal s _ _ head _ _ k.subject.ordered k.subject.inside j.issuer.ordered j.issuer.inside f in
-      let o = once-complete s (bs i) c new.1 issuers end (length subjects) bs path
+      let o = once_complete s (bs i) c new.1 issuers end (length subjects) bs path
       (λ n m o r y. x.once n m o (reads_certificate _ (bs n) o r) (sym (ap (λ (z : Contents). z.subject) new.2) ∙ y.0, sym (ap (λ (z : Contents). z.key) new.2) ∙ y.1)) in
       rw (lt-leb 7 (depth_of path) (places_few path x.few), top.1, le-ltb i (length subjects) x.candidate, new.1, g, o)
 
@@ -201,7 +201,7 @@ module _ (issuers : List (List ℕ)) (end : List ℕ) (subjects keys constraints
         keyed = ltb-true _ _ t.0;
         whole = whole_sound l.0;
         head = contents_of head h;
-        newest-is = reads_certificate head (bs (newest path)) (contents_of head h) (h, q.1, refl);
+        newest_is = reads_certificate head (bs (newest path)) (contents_of head h) (h, q.1, refl);
         chained = sym (part_whole subject) ∙ (same_yes subject 0 (length subject) head h.issuer.start h.issuer.end u.0).4;
         trusted = rw (part_whole key) at w;
       }
@@ -212,7 +212,7 @@ module _ (issuers : List (List ℕ)) (end : List ℕ) (subjects keys constraints
       let head = certificate_of issuers end (length subjects) (newest path) in
       let subject = get_or subjects i [] in
       let key = get_or keys i [] in
-      let top = certificate_reads head x.head x.newest-is in
+      let top = certificate_reads head x.head x.newest_is in
       let h = top.0 in
       let j = read_inside head (bs (newest path)) true h top.1 in
       let f : part subject 0 (length subject) ≡ at head h.issuer = part_whole subject ∙ x.chained ∙ sym (ap (λ (y : Contents). y.issuer) top.2) in

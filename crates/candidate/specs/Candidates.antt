@@ -20,7 +20,7 @@ module _ (issuers : List (List ℕ)) (end : List ℕ) (subjects keys distrusted 
     pub few : length path ≤ suc most_intermediates
     pub candidate : length subjects ≤ i
     pub head : Contents
-    pub newest-is : Has (newest path) head
+    pub newest_is : Has (newest path) head
     pub next : Contents
     pub next_is : Has i next
     pub chained : Chained head next.subject
@@ -33,6 +33,6 @@ module _ (issuers : List (List ℕ)) (end : List ℕ) (subjects keys distrusted 
     pub keyed : i < length keys
     pub whole : Whole constraints bound i
     pub head : Contents
-    pub newest-is : Has (newest path) head
+    pub newest_is : Has (newest path) head
     pub chained : Chained head (get_or subjects i [])
     pub trusted : Trusted distrusted (get_or keys i [])

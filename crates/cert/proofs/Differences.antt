@@ -18,7 +18,7 @@ use Rattle.extensions.specs.Rfc5280.{Extension, Extensions, missing, present, ex
 use Rattle.extensions.specs.Meaning.{said_by, said}
 use Rattle.extensions.specs.Conforming.{Typed, Marked, Value, Distinct}
 use Rattle.extensions.specs.Conforming as conforming
-use Rattle.extensions.specs.Accepted.{KnownNumber, key_usage, subject_alt_name, basic_constraints, name_constraints, c_rldistribution_points, occurs}
+use Rattle.extensions.specs.Accepted.{KnownNumber, key_usage, subject_alt_name, basic_constraints, name_constraints, crl_distribution_points, occurs}
 use Rattle.extensions.specs.Accepted.{Taken, usage, known, other, Each, none as no_more, more as and_then}
 use Rattle.extensions.proofs.Value.{encoded_length}
 use Rattle.extensions.proofs.Numbers.{false_true, numbers}
@@ -133,14 +133,14 @@ module _ (k : Skeleton) (small : weight k + weight_of (listed k.extensions) < 60
   short = omega (arith, content_few k, certificate_few k)
 
   module _ (each : Each true (listed k.extensions)) (once : (n : ℕ) → KnownNumber n → occurs n (listed k.extensions) ≤ 1) where
-    is-accepted : read_certificate (certificate k) true ≡ Accepted (places k)
-    is-accepted = complete true k (record { short = short; each = each; once = once })
+    is_accepted : read_certificate (certificate k) true ≡ Accepted (places k)
+    is_accepted = complete true k (record { short = short; each = each; once = once })
 
     weaker : (Demand : Skeleton → Type 0) → (Demand k → ⊥) → Breaks Demand k
     weaker Demand broken =
         let l = certificate_few k in
         record {
-          accepted = is-accepted;
+          accepted = is_accepted;
           not_conforming = λ k' e d. broken (rw (unique k k' short (omega (arith, content_few k', ap length e)) e) d);
         }
 
@@ -380,7 +380,7 @@ one_of i c v = record { identifier = i; critical = c; value = v }
 pub list_accepted : (u : List ℕ) (xs : List Extension) → weight (extended u xs) + weight_of xs < 60000 → Each true xs → Distinct xs
     → read_certificate (certificate (extended u xs)) true ≡ Accepted (places (extended u xs))
 unfolding listed
-list_accepted u xs small each once = is-accepted (extended u xs) small each (λ n k. occurs_once n xs once)
+list_accepted u xs small each once = is_accepted (extended u xs) small each (λ n k. occurs_once n xs once)
 
 list_breaks : (u : List ℕ) (xs : List Extension) → weight (extended u xs) + weight_of xs < 60000 → Each true xs → Distinct xs
     → (Demand : Skeleton → Type 0) → (Demand (extended u xs) → ⊥) → Breaks Demand (extended u xs)
@@ -465,7 +465,7 @@ points = extended name (one_of (id_ce 31) (written true) (sequence junk) ∷ [])
 pub d42 : (read_certificate (certificate points) true ≡ Accepted (places points)) × ((point rest : List ℕ) → sequence junk ≡ sequence (sequence point ++ rest) → ⊥)
 unfolding Distinct Every sequence
 d42 = (
-  list_accepted _ _ (omega (arith, encoded_few 48 junk)) (and_then (known 31 c_rldistribution_points (λ e. omega arith) refl junk refl) no_more) (tt, tt),
+  list_accepted _ _ (omega (arith, encoded_few 48 junk)) (and_then (known 31 crl_distribution_points (λ e. omega arith) refl junk refl) no_more) (tt, tt),
   λ point rest e. no_encoding 48 point rest _ (λ h. omega arith) (last_in 48 junk (encoding 48 point ++ rest) refl (omega (arith, encoded_few 48 junk)) e).0,
 )
 
@@ -509,7 +509,7 @@ typed_basic n tag least conforming.subject_directory_attributes e = absurd (not_
 typed_basic n tag least conforming.name_constraints e = absurd (not_same 19 _ (λ h. omega arith) e)
 typed_basic n tag least conforming.policy_constraints e = absurd (not_same 19 _ (λ h. omega arith) e)
 typed_basic n tag least conforming.ext_key_usage e = absurd (not_same 19 _ (λ h. omega arith) e)
-typed_basic n tag least conforming.c_rldistribution_points e = absurd (not_same 19 _ (λ h. omega arith) e)
+typed_basic n tag least conforming.crl_distribution_points e = absurd (not_same 19 _ (λ h. omega arith) e)
 typed_basic n tag least conforming.inhibit_any_policy e = absurd (not_same 19 _ (λ h. omega arith) e)
 typed_basic n tag least conforming.freshest_crl e = absurd (not_same 19 _ (λ h. omega arith) e)
 

@@ -20,7 +20,7 @@ use Rattle.extensions.proofs.Unique.{once_in, last_in}
 use Rattle.extensions.specs.Rfc5280.{unwritten, octet_string, object_identifier, sequence, explicit, criticality, extension_content, extension, extension_list, extensions, id_ce, is_number, listed}
 use Rattle.extensions.specs.Layout.{place_of, absent, there, header, value_of, kept_of, slot_for, slots, known_at}
 use Rattle.extensions.specs.Conforming.{Distinct}
-use Rattle.extensions.specs.Accepted.{ext_key_usage, usage as of-usage, known, none as no_more, more as and_then}
+use Rattle.extensions.specs.Accepted.{ext_key_usage, usage as of_usage, known, none as no_more, more as and_then}
 use Rattle.cert.specs.declared.Certificate.{Certificate}
 use Rattle.cert.specs.declared.Reading.TheVariants.{Accepted}
 use Rattle.cert.specs.Model.{read_certificate}
@@ -150,7 +150,7 @@ pub d60_lists : (read_certificate (certificate listing) true ≡ Accepted (place
     × (ServerUsage (value_in 15 (listed listing.extensions)) → ⊥)
 unfolding listed Every Distinct sequence encoding length_bytes value_in is_number same_list bit
 d60_lists = (
-  list_accepted _ _ (lit< tt) (and_then a_key_id (and_then (of-usage refl) (and_then (known 37 ext_key_usage (λ e. omega arith) refl (6 ∷ 8 ∷ server_auth) refl) no_more)))
+  list_accepted _ _ (lit< tt) (and_then a_key_id (and_then (of_usage refl) (and_then (known 37 ext_key_usage (λ e. omega arith) refl (6 ∷ 8 ∷ server_auth) refl) no_more)))
       ((not_same 15 35 (λ e. omega arith), (not_same 37 35 (λ e. omega arith), tt)), ((not_same 37 15 (λ e. omega arith), tt), (tt, tt))),
   rw (listing_bytes, listing_found) own_good,
   ⊎_elim (λ m. not_zero (has_bit 1 2 _ m)) (⊎_elim (λ m. not_zero (has_bit 1 2 _ m)) (λ m. not_zero (has_bit 1 2 _ m))),

@@ -34,17 +34,17 @@ module _ (s : List ℕ) (to at : ℕ) where
   step_later p e = let v = value_places s at to 6 p.start p.end (expect_value s at to 6 bad_der p e) in omega arith
 
   module _ (wanted : List ℕ) where
-    pub step-next : {p : Span} → expect_at s at to 6 bad_der ≡ Content p → same_parts s p.start p.end wanted 0 (length wanted) ≡ false → (k : ℕ → Unit {0} → ℕ) → purpose_step s to wanted at k ≡ k p.end tt
+    pub step_next : {p : Span} → expect_at s at to 6 bad_der ≡ Content p → same_parts s p.start p.end wanted 0 (length wanted) ≡ false → (k : ℕ → Unit {0} → ℕ) → purpose_step s to wanted at k ≡ k p.end tt
     unfolding purpose_step on_content
-    step-next e f k = rw (e, f)
+    step_next e f k = rw (e, f)
 
     pub step_found : {p : Span} → expect_at s at to 6 bad_der ≡ Content p → same_parts s p.start p.end wanted 0 (length wanted) ≡ true → (k : ℕ → Unit {0} → ℕ) → purpose_step s to wanted at k ≡ 0
     unfolding purpose_step on_content
     step_found e f k = rw (e, f)
 
-    pub step-refused : {x : ℕ} → expect_at s at to 6 bad_der ≡ NoContent x → (k : ℕ → Unit {0} → ℕ) → purpose_step s to wanted at k ≡ x
+    pub step_refused : {x : ℕ} → expect_at s at to 6 bad_der ≡ NoContent x → (k : ℕ → Unit {0} → ℕ) → purpose_step s to wanted at k ≡ x
     unfolding purpose_step on_content
-    step-refused e k = rw e
+    step_refused e k = rw e
 
 -- ---- the walk finds the purpose exactly if it is listed
 gone_on : (g : Got) (k : ℕ → ℕ → ℕ) → GotFair g → on_content g itself k ≡ 0 → (p : Span) × (g ≡ Content p) × (k p.start p.end ≡ 0)
@@ -130,7 +130,7 @@ module _ (s : List ℕ) (b : Bytes s) (to : ℕ) (wanted : List ℕ) where
       go : (x : Bool) (r : Read at other rest) → same_parts s r.p.start r.p.end wanted 0 (length wanted) ≡ x → walked fuel r.p.end ≡ 0
           → purpose_step s to wanted at (run to no_purpose (λ a u. purpose_step s to wanted a) fuel) ≡ 0
       go true r f z = step_found s to at wanted r.found f _
-      go false r f z = step-next s to at wanted r.found f _ ∙ z
+      go false r f z = step_next s to at wanted r.found f _ ∙ z
 
   pub purpose_complete : (from : ℕ) → from ≤ to → to ≤ length s → Lists wanted (part s from to) → purpose_in s from to wanted ≡ 0
   unfolding purpose_in walk

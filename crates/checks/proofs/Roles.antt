@@ -24,7 +24,7 @@ use Rattle.checks.proofs.Contents.{found}
 use Rattle.extensions.specs.Model.{on_truth}
 use Rattle.checks.specs.Model.{in_role, first_of, on_number, itself, bounded_role, basic_in, basic_of}
 use Rattle.extensions.proofs.Refusals.{TruthFair, truth_is, truth_not, bool_fair}
-use Rattle.cert.proofs.Refusals.{SmallFair, small_is as small-number, small_not, small_fair}
+use Rattle.cert.proofs.Refusals.{SmallFair, small_is as small_number, small_not, small_fair}
 
 pub first_zero : (d e : ℕ) → first_of d e ≡ 0 → (d ≡ 0) × (e ≡ 0)
 unfolding first_of
@@ -52,7 +52,7 @@ role_case false limit below h = refl
 -- ---- sound
 numbered : (g : Small) (k : ℕ → ℕ → ℕ) → SmallFair g → on_number g itself k ≡ 0 → (n : ℕ) × (next : ℕ) × (g ≡ Number n next) × (k n next ≡ 0)
 unfolding on_number
-numbered (Number n next) k (small-number a b) e = (n, next, refl, e)
+numbered (Number n next) k (small_number a b) e = (n, next, refl, e)
 numbered (NoNumber x) k (small_not f) e = absurd (omega arith)
 
 told : (g : Truth) (k : Bool → ℕ → ℕ) → TruthFair g → on_truth g itself k ≡ 0 → (a : Bool) × (next : ℕ) × (g ≡ Said a next) × (k a next ≡ 0)
@@ -144,13 +144,13 @@ told_said : (s : List ℕ) (from to next : ℕ) (a : Bool) (bound : Bound) → f
 told_said s from to next a bound h k l (written e) q = is_bool s from to next a (record { within = l; inside = k; bytes = e })
 told_said s from to next a bound h k l (unwritten e z) q =
     let n : next ≡ from = omega (arith, sym (part_length s from next (omega arith)) ∙ ap length e) in
-    rw (n, z) (absent_bool s from to l (no-boolean q))
+    rw (n, z) (absent_bool s from to l (no_boolean q))
   where
-    no-boolean : PathLength (part s next to) bound → NoBoolean s from to
-    no-boolean (none f g) =
+    no_boolean : PathLength (part s next to) bound → NoBoolean s from to
+    no_boolean (none f g) =
         let n : next ≡ from = omega (arith, sym (part_length s from next (omega arith)) ∙ ap length e) in
         inl (omega (arith, sym (part_length s next to l) ∙ ap length f))
-    no-boolean (some m content i j f g) =
+    no_boolean (some m content i j f g) =
         let n : next ≡ from = omega (arith, sym (part_length s from next (omega arith)) ∙ ap length e) in
         let o = first_octet s next to 2 content l f in
         let o' : get_or s from 0 ≡ 2 = rw (← n) o.1 in

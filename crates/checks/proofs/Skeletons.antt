@@ -89,13 +89,13 @@ module _ (s : List ℕ) where
 
   -- ---- a list of them
   module _ {strict : Bool} (n : ℕ) (kn : KnownNumber n) (not-usage : n ≡ 15 → ⊥) where
-    list-laid : (xs : List Extension) (at to : ℕ) → Short at to → part s at to ≡ extension_list xs → Each strict xs → InSequence (value_in n xs) (slot_at s (slot_for n at xs))
+    list_laid : (xs : List Extension) (at to : ℕ) → Short at to → part s at to ≡ extension_list xs → Each strict xs → InSequence (value_in n xs) (slot_at s (slot_for n at xs))
     unfolding extension_list value_in slot_for
-    list-laid [] at to h e all = refl
-    list-laid (x ∷ xs) at to h e (more t ts) =
+    list_laid [] at to h e all = refl
+    list_laid (x ∷ xs) at to h e (more t ts) =
         let v = value_laid at to x (extension_list xs) h e in
         go (is_number n x) refl v t
-        (list-laid xs (at + length (extension x)) to (record { ordered = v.next; inside = h.inside; small = omega (arith, h.small) }) v.left ts)
+        (list_laid xs (at + length (extension x)) to (record { ordered = v.next; inside = h.inside; small = omega (arith, h.small) }) v.left ts)
       where
         go : (b : Bool) → is_number n x ≡ b → ValueLaid at to x (extension_list xs) → Taken strict x → InSequence (value_in n xs) (slot_at s (slot_for n (at + length (extension x)) xs))
             → InSequence (cond b (present x.value) (value_in n xs)) (slot_at s (cond b (kept_of n at x) (slot_for n (at + length (extension x)) xs)))
@@ -104,15 +104,15 @@ module _ (s : List ℕ) where
             (q.0, q.1, kept_laid n at to x (extension_list xs) q.0 not-usage v q.1)
         go false i v t r = r
 
-    extensions-laid : (es : Extensions) (at to : ℕ) → Short at to → part s at to ≡ extensions es → Each strict (listed es) → InSequence (value_in n (listed es)) (slot_at s (slot_in n at es))
+    extensions_laid : (es : Extensions) (at to : ℕ) → Short at to → part s at to ≡ extensions es → Each strict (listed es) → InSequence (value_in n (listed es)) (slot_at s (slot_in n at es))
     unfolding extensions listed explicit sequence value_in slot_for
-    extensions-laid missing at to h e all = refl
-    extensions-laid (given xs) at to h e all =
+    extensions_laid missing at to h e all = refl
+    extensions_laid (given xs) at to h e all =
         let f = find_last_in s at to 163 (encoding 48 (extension_list xs)) refl h.small h.ordered h.inside e in
         let field = place_of at (encoding 48 (extension_list xs)) in
         let g = find_last_in s field.start field.end 48 (extension_list xs) refl (omega (arith, f.0.after, f.0.inside, h.small)) f.0.ordered (omega (arith, f.0.inside, h.inside)) f.0.content in
         let l = place_of field.start (extension_list xs) in
-        list-laid xs l.start l.end
+        list_laid xs l.start l.end
         (record { ordered = g.0.ordered; inside = omega (arith, g.0.inside, f.0.inside, h.inside); small = omega (arith, g.0.inside, g.0.after, f.0.after, f.0.inside, h.small) })
         g.0.content all
 
@@ -170,10 +170,10 @@ laid s k e rules =
       validity = sym d.content;
       subject = sym u.content;
       key = sym y.content;
-      basic_constraints = rw (← basic_slot key.end k.extensions) (extensions-laid s 19 basic_constraints (λ q. omega arith) k.extensions key.end end rest y.left rules.each);
-      ext_key_usage = rw (← purposes_slot key.end k.extensions) (extensions-laid s 37 ext_key_usage (λ q. omega arith) k.extensions key.end end rest y.left rules.each);
-      subject_alt_name = rw (← names_slot key.end k.extensions) (extensions-laid s 17 subject_alt_name (λ q. omega arith) k.extensions key.end end rest y.left rules.each);
-      name_constraints = rw (← constraints_slot key.end k.extensions) (extensions-laid s 30 name_constraints (λ q. omega arith) k.extensions key.end end rest y.left rules.each);
+      basic_constraints = rw (← basic_slot key.end k.extensions) (extensions_laid s 19 basic_constraints (λ q. omega arith) k.extensions key.end end rest y.left rules.each);
+      ext_key_usage = rw (← purposes_slot key.end k.extensions) (extensions_laid s 37 ext_key_usage (λ q. omega arith) k.extensions key.end end rest y.left rules.each);
+      subject_alt_name = rw (← names_slot key.end k.extensions) (extensions_laid s 17 subject_alt_name (λ q. omega arith) k.extensions key.end end rest y.left rules.each);
+      name_constraints = rw (← constraints_slot key.end k.extensions) (extensions_laid s 30 name_constraints (λ q. omega arith) k.extensions key.end end rest y.left rules.each);
     }
 
 pub reads_certificate : (s : List ℕ) → Bytes s → (o : Contents) → Reads s o → IsCertificate s o
@@ -243,11 +243,11 @@ contents_once k rules o p d e =
     let i = sequence_once (value_in 37 (listed k.extensions)) _ _ (value_short 37 (listed k.extensions) h) d.ext_key_usage e.ext_key_usage in
     let j = sequence_once (value_in 17 (listed k.extensions)) _ _ (value_short 17 (listed k.extensions) h) d.subject_alt_name e.subject_alt_name in
     let l = sequence_once (value_in 30 (listed k.extensions)) _ _ (value_short 30 (listed k.extensions) h) d.name_constraints e.name_constraints in
-    same-contents o p a b c f g i j l
+    same_contents o p a b c f g i j l
   where
-    same-contents : (o p : Contents) → o.issuer ≡ p.issuer → o.validity ≡ p.validity → o.subject ≡ p.subject → o.key ≡ p.key
+    same_contents : (o p : Contents) → o.issuer ≡ p.issuer → o.validity ≡ p.validity → o.subject ≡ p.subject → o.key ≡ p.key
         → o.basic_constraints ≡ p.basic_constraints → o.ext_key_usage ≡ p.ext_key_usage → o.subject_alt_name ≡ p.subject_alt_name → o.name_constraints ≡ p.name_constraints → o ≡ p
-    same-contents o p a b c f g i j l = rw (a, b, c, f, g, i, j, l)
+    same_contents o p a b c f g i j l = rw (a, b, c, f, g, i, j, l)
 
 pub certificate_reads : (s : List ℕ) (o : Contents) → IsCertificate s o → Reads s o
 certificate_reads s o x =

@@ -59,7 +59,7 @@ pub data Role : Type 0 where
   end_entity : Role
   issuer : ℕ → Role
 
--- 6.1.4 (l), (m), but self-issued intermediates count too (stricter, D30)
+-- 6.1.4 (l), (m), but self_issued intermediates count too (stricter, D30)
 abbrev pub Allows : Bound → ℕ → Type 0
 Allows unbounded below = Unit {0}
 Allows (at_most n) below = below ≤ n

@@ -203,52 +203,52 @@ module _ (s : List ℕ) (to : ℕ) (excluded : Bool) (kind : ℕ) (p : List ℕ)
   -- what holds of no look, of one turn, and of a turn and what comes after it, holds of the looks and of the comparisons that are taken
   module _ (P : ℕ → ℕ → ℕ → Type 0) (none : (at u : ℕ) → P at 0 u) (one : (at : ℕ) → at < to → P at (judged_looks s to excluded kind p at) 1)
       (more : (at : ℕ) (seen : Seen) (next : ℕ) (seen' : Seen) (n u : ℕ) → judged s to excluded kind p at seen ≡ Next next seen' → P next n u → P at (judged_looks s to excluded kind p at + n) (suc u)) where
-    turn-keeps : (at : ℕ) (seen : Seen) (left : ℕ) (k : ℕ → Going → ℕ) (t : ℕ → Seen → Tally) (r : Step) → at < to → judged s to excluded kind p at seen ≡ r → (left ≡ 0 → ⊥)
+    turn_keeps : (at : ℕ) (seen : Seen) (left : ℕ) (k : ℕ → Going → ℕ) (t : ℕ → Seen → Tally) (r : Step) → at < to → judged s to excluded kind p at seen ≡ r → (left ≡ 0 → ⊥)
         → ((next : ℕ) (x : Seen) → P next (k next (going x (left - 1))) (used (left - 1) (t next x)))
         → P at (judged_looks s to excluded kind p at + after_step r (λ next x. k next (going x (left - 1)))) (used left (go_on r t))
     unfolding after_step go_on
-    turn-keeps at seen left k t (Next next x) l e n h = rw (used_next left (t next x) n) (more at seen next x _ _ e (h next x))
-    turn-keeps at seen left k t (Stop f) l e n h =
+    turn_keeps at seen left k t (Next next x) l e n h = rw (used_next left (t next x) n) (more at seen next x _ _ e (h next x))
+    turn_keeps at seen left k t (Stop f) l e n h =
         let z : judged_looks s to excluded kind p at + 0 ≡ judged_looks s to excluded kind p at = omega arith in
         rw (used_stop left f n, z) (one at l)
 
-    paid-keeps : (at : ℕ) (seen : Seen) (left : ℕ) (k : ℕ → Going → ℕ) (t : ℕ → Seen → Tally) → at < to
+    paid_keeps : (at : ℕ) (seen : Seen) (left : ℕ) (k : ℕ → Going → ℕ) (t : ℕ → Seen → Tally) → at < to
         → ((next : ℕ) (x : Seen) → P next (k next (going x (left - 1))) (used (left - 1) (t next x)))
         → P at (turn_looks s to excluded kind p at (going seen left) k) (used left (go_on (judged s to excluded kind p at seen) t))
     unfolding turn_looks
-    paid-keeps at seen left k t l h = by (eqb left 0) refl
+    paid_keeps at seen left k t l h = by (eqb left 0) refl
       where
         by : (b : Bool) → eqb left 0 ≡ b
             → P at (cond b 0 (judged_looks s to excluded kind p at + after_step (judged s to excluded kind p at seen) (λ next x. k next (going x (left - 1))))) (used left (go_on (judged s to excluded kind p at seen) t))
         by true e = none at _
-        by false e = turn-keeps at seen left k t (judged s to excluded kind p at seen) l refl (eqb-false left 0 e) h
+        by false e = turn_keeps at seen left k t (judged s to excluded kind p at seen) l refl (eqb-false left 0 e) h
 
-    run-keeps : (fuel at : ℕ) (seen : Seen) (left : ℕ)
+    run_keeps : (fuel at : ℕ) (seen : Seen) (left : ℕ)
         → P at (run to (λ at x. 0) (turn_looks s to excluded kind p) fuel at (going seen left)) (used left (run to ended (λ at seen. go_on (judged s to excluded kind p at seen)) fuel at seen))
     unfolding run
-    run-keeps zero at seen left = none at _
-    run-keeps (suc fuel) at seen left = by (ltb at to) refl (run-keeps fuel)
+    run_keeps zero at seen left = none at _
+    run_keeps (suc fuel) at seen left = by (ltb at to) refl (run_keeps fuel)
       where
         by : (b : Bool) → ltb at to ≡ b
             → ((a : ℕ) (x : Seen) (m : ℕ) → P a (run to (λ at x. 0) (turn_looks s to excluded kind p) fuel a (going x m)) (used m (run to ended (λ at seen. go_on (judged s to excluded kind p at seen)) fuel a x)))
             → P at (cond b (turn_looks s to excluded kind p at (going seen left) (run to (λ at x. 0) (turn_looks s to excluded kind p) fuel)) 0) (used left (cond b (go_on (judged s to excluded kind p at seen) (run to ended (λ at seen. go_on (judged s to excluded kind p at seen)) fuel)) (ended at seen)))
         by false e h = none at _
-        by true e h = paid-keeps at seen left _ _ (ltb-true at to e) (λ next x. h next x (left - 1))
+        by true e h = paid_keeps at seen left _ _ (ltb-true at to e) (λ next x. h next x (left - 1))
 
-    pub all-keeps : (from left : ℕ) → P from (all_looks s from to excluded kind p left) (used left (entries s from to excluded kind p))
+    pub all_keeps : (from left : ℕ) → P from (all_looks s from to excluded kind p left) (used left (entries s from to excluded kind p))
     unfolding all_looks entries walk
-    all-keeps from left = run-keeps (to - from) from unseen left
+    all_keeps from left = run_keeps (to - from) from unseen left
 
   -- a list costs no more than 1145 looks for each comparison that it takes of the budget
   pub all_most : (from left : ℕ) → all_looks s from to excluded kind p left ≤ 1145 * used left (entries s from to excluded kind p)
   all_most from left =
-      all-keeps (λ at n u. n ≤ 1145 * u) (λ at u. omega arith) (λ at l. judged_most s to excluded kind p at)
+      all_keeps (λ at n u. n ≤ 1145 * u) (λ at u. omega arith) (λ at l. judged_most s to excluded kind p at)
       (λ at seen next x n u e h. omega (arith, judged_most s to excluded kind p at)) from left
 
   -- and no more than three for each byte of the list, and for each comparison three for each byte of the name
   pub all_few : (from left : ℕ) → all_looks s from to excluded kind p left ≤ 3 * (length p * used left (entries s from to excluded kind p)) + 3 * (to - from)
   all_few from left =
-      all-keeps (λ at n u. n ≤ 3 * (length p * u) + 3 * (to - at)) (λ at u. omega arith)
+      all_keeps (λ at n u. n ≤ 3 * (length p * u) + 3 * (to - at)) (λ at u. omega arith)
       (λ at l. omega (arith, judged_few s to excluded kind p at, mul-suc (length p) 0))
       (λ at seen next x n u e h.
       let j = judged_inv s to excluded kind p at seen next x e in
@@ -258,7 +258,7 @@ module _ (s : List ℕ) (to : ℕ) (excluded : Bool) (kind : ℕ) (p : List ℕ)
   pub all_each : (from left longest : ℕ) → 4 ≤ longest → ((at base start end : ℕ) → Met s from to at → base_at s at to ≡ Is base start end → end - at ≤ longest)
       → all_looks s from to excluded kind p left ≤ 3 * ((length p + longest) * used left (entries s from to excluded kind p))
   all_each from left longest l each =
-      all-keeps (λ at n u. Met s from to at → n ≤ 3 * ((length p + longest) * u)) (λ at u m. omega arith)
+      all_keeps (λ at n u. Met s from to at → n ≤ 3 * ((length p + longest) * u)) (λ at u m. omega arith)
       (λ at k m. omega (arith, either_cost s to excluded kind p at longest l (λ base start end. each at base start end m), mul-suc (length p + longest) 0))
       (λ at seen next x n u e h m.
       let j = judged_inv s to excluded kind p at seen next x e in

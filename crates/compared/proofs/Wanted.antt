@@ -13,7 +13,7 @@ use Rattle.der.specs.Places.{part}
 use Rattle.der.proofs.Laws.{lt_or_le}
 use Rattle.der.proofs.Parts.{part_length}
 use Rattle.looks.specs.Der.{same_looks, value_looks}
-use Rattle.looks.proofs.Der.{at_most, value_few, test_then, walk-keeps}
+use Rattle.looks.proofs.Der.{at_most, value_few, test_then, walk_keeps}
 use Rattle.texts.specs.Bytes.{dot}
 use Rattle.labels.specs.Names.{star}
 use Rattle.texts.specs.Model.{begins, relative_text, from_dot}
@@ -181,7 +181,7 @@ try_few s at to sought wanted k after =
 pub good_few : (s : List ℕ) (from to sought : ℕ) (wanted : List ℕ) → 3 * good_looks s from to sought wanted ≤ 9 * (to - from) + (to - from) * length wanted
 unfolding good_looks
 good_few s from to sought wanted =
-    walk-keeps to _ _ (λ at n. 3 * n ≤ 9 * (to - at) + (to - at) * length wanted) (λ at u. omega arith)
+    walk_keeps to _ _ (λ at n. 3 * n ≤ 9 * (to - at) + (to - at) * length wanted) (λ at u. omega arith)
     (λ at u k l after. try_few s at to sought wanted (λ next. k next u) (λ next. after next u)) from tt
 
 wanted_long : (s : List ℕ) (from to : ℕ) (wanted : List ℕ) → 253 < length wanted → good_dns_looks s from to wanted ≡ 0
@@ -227,5 +227,5 @@ try_own s at to wanted k after =
 pub good_ip_few : (s : List ℕ) (from to : ℕ) (wanted : List ℕ) → good_ip_looks s from to wanted ≤ 2 * (to - from)
 unfolding good_ip_looks good_looks
 good_ip_few s from to wanted =
-    walk-keeps to _ _ (λ at n. n ≤ 2 * (to - at)) (λ at u. omega arith)
+    walk_keeps to _ _ (λ at n. n ≤ 2 * (to - at)) (λ at u. omega arith)
     (λ at u k l after. try_own s at to wanted (λ next. k next u) (λ next. after next u)) from tt

@@ -9,7 +9,7 @@ use native.Mathlib.Omega.{arith}
 use Rattle.der.proofs.Laws.{lt_or_le}
 use Rattle.extensions.specs.Rfc5280.{Extension, listed, is_critical, is_number}
 use Rattle.parts.specs.Lists.{Every}
-use Rattle.extensions.specs.Accepted.{Taken, usage, known, other, key_usage, subject_alt_name, basic_constraints, name_constraints, c_rldistribution_points, ext_key_usage, Each as EachExtension, none as no-extension, more as one-extension}
+use Rattle.extensions.specs.Accepted.{Taken, usage, known, other, key_usage, subject_alt_name, basic_constraints, name_constraints, crl_distribution_points, ext_key_usage, Each as EachExtension, none as no_extension, more as one_extension}
 use Rattle.extensions.proofs.Complete.{number_is}
 use Rattle.names.specs.General.{General, Each}
 use Rattle.subtrees.specs.Rfc5280Names.{Others, Some, OfKind, NameConstraints, Touches, Formed, Conforms}
@@ -23,7 +23,7 @@ use Rattle.conditions.specs.Request.{Request}
 use Rattle.conditions.specs.Conditions.{Each as EachOf, InPlace, Chain, bytes_of, Numbers, Readable, Signed}
 use Rattle.conditions.specs.Exactly.{Own, Issuers, subject_name, constraints_of}
 use Rattle.conditions.specs.RfcNames.{MailOf, MailInSubject, Conforming}
-use Rattle.conditions.specs.Rfc5280Path.{Certificate, World, Inputs, State, initially, Constrains, Limit, none as no-limit, some as a-limit, Authority, Lowered, Within, NamesWithin, Basic, Counted, self-issued, counted, Handled, not-critical, key_usage as as-usage, subject_alt_name as as-names, basic_constraints as as-basic, name_constraints as as-constraints, elsewhere, Onward}
+use Rattle.conditions.specs.Rfc5280Path.{Certificate, World, Inputs, State, initially, Constrains, Limit, none as no_limit, some as a_limit, Authority, Lowered, Within, NamesWithin, Basic, Counted, self_issued, counted, Handled, not_critical, key_usage as as_usage, subject_alt_name as as_names, basic_constraints as as_basic, name_constraints as as_constraints, elsewhere, Onward}
 use Rattle.conditions.specs.RfcAccepts.{KeyUsageKept, PointsProcessed, Initially, True, AcceptsType}
 use Rattle.conditions.proofs.NeverWeaker.{never_weaker}
 
@@ -85,8 +85,8 @@ module _ (W : World) where
           excluded = excluded_both W.other out s.excluded_subtrees n (excluded_alone W.other own out n c) w.excluded;
         }
 
-    safe-more : (o : Contents) → Conforming W.other own out o → ((n : General) → MailInSubject own out o n → ⊥) → Safe s o → Safe (grown s own out key name m) o
-    safe-more o c no-mail x = inr (go x)
+    safe_more : (o : Contents) → Conforming W.other own out o → ((n : General) → MailInSubject own out o n → ⊥) → Safe s o → Safe (grown s own out key name m) o
+    safe_more o c no-mail x = inr (go x)
       where
         mail : (n : General) → MailOf o n → Conforms W.other own out n
         mail n h = ⊎_elim (λ y. y) (λ y. absurd (no-mail n y)) (c.mail n h)
@@ -116,28 +116,28 @@ module _ (W : World) where
 
   -- ---- extensions
   module _ (purposes : (x : Extension) → is_number 37 x ≡ true → W.Processed x) where
-    taken-handled : (x : Extension) → Taken true x → (is_number 31 x ≡ true → is_critical x.critical ≡ true → W.Processed x) → Handled W x
-    taken-handled x (usage e) point = as-usage (number_is 15 x e)
-    taken-handled x (known n key_usage ne e content v) point = as-usage (number_is 15 x e)
-    taken-handled x (known n subject_alt_name ne e content v) point = as-names (number_is 17 x e)
-    taken-handled x (known n basic_constraints ne e content v) point = as-basic (number_is 19 x e)
-    taken-handled x (known n name_constraints ne e content v) point = as-constraints (number_is 30 x e)
-    taken-handled x (known n c_rldistribution_points ne e content v) point = by (is_critical x.critical) refl
+    taken_handled : (x : Extension) → Taken true x → (is_number 31 x ≡ true → is_critical x.critical ≡ true → W.Processed x) → Handled W x
+    taken_handled x (usage e) point = as_usage (number_is 15 x e)
+    taken_handled x (known n key_usage ne e content v) point = as_usage (number_is 15 x e)
+    taken_handled x (known n subject_alt_name ne e content v) point = as_names (number_is 17 x e)
+    taken_handled x (known n basic_constraints ne e content v) point = as_basic (number_is 19 x e)
+    taken_handled x (known n name_constraints ne e content v) point = as_constraints (number_is 30 x e)
+    taken_handled x (known n crl_distribution_points ne e content v) point = by (is_critical x.critical) refl
       where
         by : (b : Bool) → is_critical x.critical ≡ b → Handled W x
         by true h = elsewhere (point (number_is 31 x e) h)
-        by false h = not-critical h
-    taken-handled x (known n ext_key_usage ne e content v) point = elsewhere (purposes x (number_is 37 x e))
-    taken-handled x (other f g) point = by (is_critical x.critical) refl
+        by false h = not_critical h
+    taken_handled x (known n ext_key_usage ne e content v) point = elsewhere (purposes x (number_is 37 x e))
+    taken_handled x (other f g) point = by (is_critical x.critical) refl
       where
         by : (b : Bool) → is_critical x.critical ≡ b → Handled W x
         by true h = absurd (g refl h)
-        by false h = not-critical h
+        by false h = not_critical h
 
-    all-handled : (xs : List Extension) → EachExtension true xs → Every (λ x. is_number 31 x ≡ true → is_critical x.critical ≡ true → W.Processed x) xs → Every (Handled W) xs
+    all_handled : (xs : List Extension) → EachExtension true xs → Every (λ x. is_number 31 x ≡ true → is_critical x.critical ≡ true → W.Processed x) xs → Every (Handled W) xs
     unfolding Every
-    all-handled [] no-extension h = tt
-    all-handled (x ∷ xs) (one-extension t ts) h = (taken-handled x t h.0, all-handled xs ts h.1)
+    all_handled [] no_extension h = tt
+    all_handled (x ∷ xs) (one_extension t ts) h = (taken_handled x t h.0, all_handled xs ts h.1)
 
   -- ---- (k), (l), (m)
   authority_of : (o : Optional) (bound : Bound) → Constrained o true bound → Authority o bound
@@ -145,8 +145,8 @@ module _ (W : World) where
   authority_of (present content) bound c = go c.says
     where
       limit : {rest : List ℕ} → PathLength rest bound → Limit rest bound
-      limit (none e b) = no-limit e b
-      limit (some n l s m e b) = a-limit n l m e b
+      limit (none e b) = no_limit e b
+      limit (some n l s m e b) = a_limit n l m e b
 
       go : Says c.first true → Authority (present content) bound
       go (unwritten e f) = absurd (let z : ◌≡◌ {A = ℕ} 0 1 = cc f in omega arith)
@@ -155,23 +155,23 @@ module _ (W : World) where
   record Lengths (c : Certificate) (bound : Bound) (m below : ℕ) : Type 0 where
     left : ℕ
     next : ℕ
-    is-counted : Counted W c m left
-    is-lowered : Lowered bound left next
+    is_counted : Counted W c m left
+    is_lowered : Lowered bound left next
     enough : below ≤ next
 
   lower : (c : Certificate) (bound : Bound) (m below : ℕ) → Allows bound below → (left : ℕ) → below ≤ left → Counted W c m left → Lengths c bound m below
-  lower c unbounded m below a left l k = record { left = left; next = left; is-counted = k; is-lowered = refl; enough = l }
+  lower c unbounded m below a left l k = record { left = left; next = left; is_counted = k; is_lowered = refl; enough = l }
   lower c (at_most n) m below a left l k =
       ⊎_elim
-      (λ q. record { left = left; next = n; is-counted = k; is-lowered = inl (q, refl); enough = a })
-      (λ q. record { left = left; next = left; is-counted = k; is-lowered = inr (q, refl); enough = l })
+      (λ q. record { left = left; next = n; is_counted = k; is_lowered = inl (q, refl); enough = a })
+      (λ q. record { left = left; next = left; is_counted = k; is_lowered = inr (q, refl); enough = l })
       (lt_or_le n left)
 
   lengths : (c : Certificate) (bound : Bound) (m below : ℕ) → Allows bound below → suc below ≤ m → Lengths c bound m below
   lengths c bound zero below a h = absurd (omega arith)
   lengths c bound (suc m) below a h =
       ⊎_elim
-      (λ i. lower c bound (suc m) below a (suc m) (omega arith) (self-issued i refl))
+      (λ i. lower c bound (suc m) below a (suc m) (omega arith) (self_issued i refl))
       (λ i. lower c bound (suc m) below a m (omega arith) (counted i refl))
       (W.told c.contents.subject c.contents.issuer)
 
@@ -213,34 +213,34 @@ module _ (R : Request) where
     abbrev InWhole : List Certificate → Type 0
     InWhole cs = (c : Certificate) → Memᴰ c cs → Memᴰ c whole
 
-    safe-all : (s : State) (own out : List General) (key name : List ℕ) (m : ℕ) (content : List ℕ) → NameConstraints content own out → Mailless content → (path : List ℕ) (os : List Contents) (r : Readable R path os) → InWhole (certs_of path os r)
+    safe_all : (s : State) (own out : List General) (key name : List ℕ) (m : ℕ) (content : List ℕ) → NameConstraints content own out → Mailless content → (path : List ℕ) (os : List Contents) (r : Readable R path os) → InWhole (certs_of path os r)
         → EachOf (Conforming W.other own out) os → EachOf (Safe W s) os → EachOf (Safe W (grown W s own out key name m)) os
     unfolding EachOf certs_of Readable
-    safe-all s own out key name m content is free [] [] r w c x = tt
-    safe-all s own out key name m content is free [] (o ∷ os) r w c x = absurd r
-    safe-all s own out key name m content is free (n ∷ ns) [] r w c x = absurd r
-    safe-all s own out key name m content is free (n ∷ ns) (o ∷ os) r w c x = (
-      safe-more W s own out key name m o c.0 (λ g. free (cert_of (bytes_of R n) o r.0) (w _ (Memᴰ.head refl)) own out is g) x.0,
-      safe-all s own out key name m content is free ns os r.1 (λ d e. w d (Memᴰ.tail e)) c.1 x.1,
+    safe_all s own out key name m content is free [] [] r w c x = tt
+    safe_all s own out key name m content is free [] (o ∷ os) r w c x = absurd r
+    safe_all s own out key name m content is free (n ∷ ns) [] r w c x = absurd r
+    safe_all s own out key name m content is free (n ∷ ns) (o ∷ os) r w c x = (
+      safe_more W s own out key name m o c.0 (λ g. free (cert_of (bytes_of R n) o r.0) (w _ (Memᴰ.head refl)) own out is g) x.0,
+      safe_all s own out key name m content is free ns os r.1 (λ d e. w d (Memᴰ.tail e)) c.1 x.1,
     )
 
     -- the state after a certificate, and what is safe in it
     record Next (s : State) (c : Certificate) (path : List ℕ) (os : List Contents) (m : ℕ) : Type 0 where
       next : State
-      name-is : next.working_issuer_name ≡ c.contents.subject
+      name_is : next.working_issuer_name ≡ c.contents.subject
       key_is : next.working_public_key ≡ c.contents.key
-      max-is : next.max_path_length ≡ m
+      max_is : next.max_path_length ≡ m
       constrains : Constrains c.contents.name_constraints s next.permitted_subtrees next.excluded_subtrees
       safe : EachOf (Safe W next) os
 
-    next-state : (s : State) (c : Certificate) (path : List ℕ) (os : List Contents) (m : ℕ) (r : Readable R path os) → InWhole (certs_of path os r) → (o : Optional) → c.contents.name_constraints ≡ o
+    next_state : (s : State) (c : Certificate) (path : List ℕ) (os : List Contents) (m : ℕ) (r : Readable R path os) → InWhole (certs_of path os r) → (o : Optional) → c.contents.name_constraints ≡ o
         → Own (Conforming W.other) o os → ((content : List ℕ) → o ≡ present content → Mailless content) → EachOf (Safe W s) os → Next s c path os m
-    next-state s c path os m r w absent e h free x =
+    next_state s c path os m r w absent e h free x =
         record {
           next = record { permitted_subtrees = s.permitted_subtrees; excluded_subtrees = s.excluded_subtrees; working_public_key = c.contents.key; working_issuer_name = c.contents.subject; max_path_length = m };
-          name-is = refl;
+          name_is = refl;
           key_is = refl;
-          max-is = refl;
+          max_is = refl;
           constrains = rw e (refl, refl);
           safe = same os x;
         }
@@ -253,14 +253,14 @@ module _ (R : Request) where
 
         same : (os : List Contents) → EachOf (Safe W s) os → EachOf (Safe W (record { permitted_subtrees = s.permitted_subtrees; excluded_subtrees = s.excluded_subtrees; working_public_key = c.contents.key; working_issuer_name = c.contents.subject; max_path_length = m })) os
         same os x = each_of _ _ again os x
-    next-state s c path os m r w (present content) e h free x =
+    next_state s c path os m r w (present content) e h free x =
         record {
           next = grown W s h.permitted h.excluded c.contents.key c.contents.subject m;
-          name-is = refl;
+          name_is = refl;
           key_is = refl;
-          max-is = refl;
+          max_is = refl;
           constrains = rw e (h.permitted, h.excluded, h.is, refl, refl);
-          safe = safe-all s h.permitted h.excluded c.contents.key c.contents.subject m content h.is (free content refl) path os r w h.rule x;
+          safe = safe_all s h.permitted h.excluded c.contents.key c.contents.subject m content h.is (free content refl) path os r w h.rule x;
         }
 
     basic : (key n : ℕ) (o : Contents) (x : IsCertificate (bytes_of R n) o) (s : State) (final : Bool) → KeyOf R.issuers R.end R.keys (length R.subjects) key s.working_public_key → Yes key (of_certificate n)
@@ -269,7 +269,7 @@ module _ (R : Request) where
         record {
           signature = faithful key n s.working_public_key k y;
           validity = v;
-          not-revoked = z;
+          not_revoked = z;
           issuer = rw e (W.itself o.issuer);
           names = λ a b. safe_names W s o safe b;
         }
@@ -284,7 +284,7 @@ module _ (R : Request) where
     onward key (n ∷ ns) [] r s nu k ch va pl si is sa le w free ku po re = absurd r
     onward key (n ∷ []) (o ∷ []) r s nu k ch va pl si is sa le w free ku po re = (
       basic key n o r.0 s true k si.1 va.0 re.0 ch.0 sa.0,
-      all-handled W purposes (listed r.0.k.extensions) r.0.rules.each po.0,
+      all_handled W purposes (listed r.0.k.extensions) r.0.rules.each po.0,
     )
     onward key (n ∷ []) (o ∷ (p ∷ os)) r s nu k ch va pl si is sa le w free ku po re = absurd r.1
     onward key (n ∷ (i ∷ ns)) (o ∷ []) r s nu k ch va pl si is sa le w free ku po re = absurd r.1
@@ -293,24 +293,24 @@ module _ (R : Request) where
         let bound = pl.0.0 in
         let l = lengths W c bound s.max_path_length (length os) pl.0.2 (omega (arith, le)) in
         let v : InWhole (certs_of (i ∷ ns) (p ∷ os) r.1) = λ d e. w d (Memᴰ.tail e) in
-        let x = next-state s c (i ∷ ns) (p ∷ os) l.next r.1 v o.name_constraints refl is.0 (free c (w c (Memᴰ.head refl))) sa.1 in (
+        let x = next_state s c (i ∷ ns) (p ∷ os) l.next r.1 v o.name_constraints refl is.0 (free c (w c (Memᴰ.head refl))) sa.1 in (
           basic key n o r.0 s false k si.1 va.0 re.0 ch.0 sa.0,
           (
             x.next,
             record {
-              name = x.name-is;
+              name = x.name_is;
               key = x.key_is;
               constrains = x.constrains;
               bound = bound;
               authority = authority_of W o.basic_constraints bound pl.0.1;
               left = l.left;
-              counted = l.is-counted;
-              lowered = rw x.max-is l.is-lowered;
-              may-sign = ku.0;
-              handled = all-handled W purposes (listed r.0.k.extensions) r.0.rules.each po.0;
+              counted = l.is_counted;
+              lowered = rw x.max_is l.is_lowered;
+              may_sign = ku.0;
+              handled = all_handled W purposes (listed r.0.k.extensions) r.0.rules.each po.0;
             },
-            onward n (i ∷ ns) (p ∷ os) r.1 x.next nu.2 (rw x.key_is (from_certificate nu.0 o r.0 refl)) (rw x.name-is ch.1) va.1 pl.1 si.2 is.1 x.safe
-                (omega (arith, l.enough, x.max-is)) v free ku.1 po.1 re.1,
+            onward n (i ∷ ns) (p ∷ os) r.1 x.next nu.2 (rw x.key_is (from_certificate nu.0 o r.0 refl)) (rw x.name_is ch.1) va.1 pl.1 si.2 is.1 x.safe
+                (omega (arith, l.enough, x.max_is)) v free ku.1 po.1 re.1,
           ),
         )
 
@@ -375,7 +375,7 @@ accepts R W Yes faithful anchor path x =
     let r = x.readable in
     let cs = certs_of R path os r in
     let met = never_weaker W.other (constraints_of R anchor) os x.constrained in
-    let b = begin R W anchor (constraints_of R anchor) path os r (length cs) met.anchor-met in
+    let b = begin R W anchor (constraints_of R anchor) path os r (length cs) met.anchor_met in
     record {
       certificates = cs;
       are = certs_bytes R path os r;
@@ -385,11 +385,11 @@ accepts R W Yes faithful anchor path x =
           λ u.
           record {
             steps = onward R W Yes faithful R.time cs u.purposes anchor path os r (initially (inputs_for R anchor b.permitted b.excluded) (length cs)) x.numbers (of_anchor x.anchored x.keyed refl) x.chained x.valid x.placed
-                x.signed met.issuers-met
+                x.signed met.issuers_met
                 (b.safe (λ content e c m own out is g h. u.mail (record { certificate = c; is_on_path = m; content = content; whose = inl e; permitted = own; excluded = out; is = is; name = g; mail = h })))
                 (omega (arith, certs_length R path os r)) (λ c m. m)
                 (λ d dm content e c m own out is g h. u.mail (record { certificate = c; is_on_path = m; content = content; whose = inr (d, dm, e); permitted = own; excluded = out; is = is; name = g; mail = h }))
-                u.key-usage u.points u.not-revoked;
+                u.key_usage u.points u.not_revoked;
             policies = u.policies;
           };
     }

@@ -142,21 +142,21 @@ module _ (cert : ℕ → List ℕ) (m l : ℕ)
   each = suc (m / 2) * ((l + 2) / 4)
 
   module _ (s : List ℕ) (lists : Subtrees) (few : (kind : ℕ) (p : List ℕ) → (name s lists kind p).taken ≤ (l + 2) / 4) where
-    abbrev namesFrom : List ℕ → ℕ → ℕ → ℕ → Unit {0} → Tally
-    namesFrom t to fuel at u = run to (λ a v. clean) (λ a v. next_name s lists t (general_name t a to)) fuel at u
+    abbrev names_from : List ℕ → ℕ → ℕ → ℕ → Unit {0} → Tally
+    names_from t to fuel at u = run to (λ a v. clean) (λ a v. next_name s lists t (general_name t a to)) fuel at u
 
-    names-run : (t : List ℕ) (to fuel at : ℕ) (u : Unit {0}) → (namesFrom t to fuel at u).taken ≤ (to - at) / 2 * ((l + 2) / 4)
+    names_run : (t : List ℕ) (to fuel at : ℕ) (u : Unit {0}) → (names_from t to fuel at u).taken ≤ (to - at) / 2 * ((l + 2) / 4)
     unfolding run next_name on_name
-    names-run t to zero at u = omega arith
-    names-run t to (suc fuel) at u = by (ltb at to) (general_name t at to) refl (names-run t to fuel)
+    names_run t to zero at u = omega arith
+    names_run t to (suc fuel) at u = by (ltb at to) (general_name t at to) refl (names_run t to fuel)
       where
-        by : (b : Bool) (n : Name) → general_name t at to ≡ n → ((a : ℕ) (v : Unit {0}) → (namesFrom t to fuel a v).taken ≤ (to - a) / 2 * ((l + 2) / 4))
-            → (cond b (next_name s lists t n (namesFrom t to fuel)) clean).taken ≤ (to - at) / 2 * ((l + 2) / 4)
+        by : (b : Bool) (n : Name) → general_name t at to ≡ n → ((a : ℕ) (v : Unit {0}) → (names_from t to fuel a v).taken ≤ (to - a) / 2 * ((l + 2) / 4))
+            → (cond b (next_name s lists t n (names_from t to fuel)) clean).taken ≤ (to - at) / 2 * ((l + 2) / 4)
         by true (Found kind start end) e rec =
             let g = name_long t at to kind start end e in
             omega (
               arith,
-              after_few (name s lists kind (part t start end)) (namesFrom t to fuel end tt),
+              after_few (name s lists kind (part t start end)) (names_from t to fuel end tt),
               few kind (part t start end),
               rec end tt,
               mul-le-mul_right {m = suc ((to - end) / 2)} {n = (to - at) / 2} ((l + 2) / 4) (omega (arith, g.0, g.1)),
@@ -179,16 +179,16 @@ module _ (cert : ℕ → List ℕ) (m l : ℕ)
             omega (
               arith,
               after_few (alternatives s lists (cert n) from to) (name s lists directory_name (part (cert n) c.subject.start c.subject.end)),
-              names-run (cert n) to (to - from) from tt,
+              names_run (cert n) to (to - from) from tt,
               few directory_name (part (cert n) c.subject.start c.subject.end),
               mul-le-mul_right {m = (to - from) / 2} {n = m / 2} ((l + 2) / 4) (omega (arith, names n c e)),
             )
         by (NotRead e) h = omega arith
 
-    below-few : (path : List ℕ) → (below_in s lists (map lent (map cert path))).taken ≤ length path * each
+    below_few : (path : List ℕ) → (below_in s lists (map lent (map cert path))).taken ≤ length path * each
     unfolding below_in
-    below-few [] = omega arith
-    below-few (n ∷ ns) = omega (arith, after_few (certificate_as s lists (lent (cert n))) (below_in s lists (map lent (map cert ns))), certificate_few n, below-few ns)
+    below_few [] = omega arith
+    below_few (n ∷ ns) = omega (arith, after_few (certificate_as s lists (lent (cert n))) (below_in s lists (map lent (map cert ns))), certificate_few n, below_few ns)
 
   constraints_few : (s : List ℕ) (from to : ℕ) → to - from ≤ l → (path : List ℕ) → (constraints_in s from to (map lent (map cert path))).taken ≤ length path * each
   unfolding constraints_in on_lists
@@ -204,7 +204,7 @@ module _ (cert : ℕ → List ℕ) (m l : ℕ)
             arith,
             after_few (below_in s lists (map lent (map cert path))) (left_over lists.excluded.end to),
             over (eqb lists.excluded.end to),
-            below-few s lists (λ kind p. omega (arith, few, name_few s from to lists e kind p)) path,
+            below_few s lists (λ kind p. omega (arith, few, name_few s from to lists e kind p)) path,
           )
       by (NoLists e) h = omega arith
 

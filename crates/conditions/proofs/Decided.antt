@@ -23,18 +23,18 @@ use Rattle.dialogue.specs.Work.{Sorted}
 use Rattle.dialogue.specs.Decided.{Decided as SearchDecided}
 use Rattle.dialogue.proofs.Answers.{followed}
 use Rattle.dialogue.proofs.Sound.{weaker}
-use Rattle.dialogue.proofs.Decided.{decided as search-decided}
+use Rattle.dialogue.proofs.Decided.{decided as search_decided}
 use Rattle.machine.specs.World.{meaning_of, world_of}
 use Rattle.machine.proofs.Lent.{only_yes}
 use Rattle.conditions.specs.Request.{Request, Budgets, end_of}
 use Rattle.conditions.specs.Model.{world_for, search_of, decision}
 use Rattle.conditions.specs.Conditions.{Lends, Named}
 use Rattle.conditions.specs.Meets.{Stands, Meets}
-use Rattle.conditions.specs.Decided.{Which, unread, no-path, other_name, Work, nothing, searched, Decided}
+use Rattle.conditions.specs.Decided.{Which, unread, no_path, other_name, Work, nothing, searched, Decided}
 use Rattle.conditions.proofs.Lent.{bytes}
-use Rattle.conditions.proofs.Paths.{Answered, stands, meets-acceptable}
+use Rattle.conditions.proofs.Paths.{Answered, stands, meets_acceptable}
 use Rattle.conditions.proofs.Names.{good_named, named_good, name_mild}
-use Rattle.conditions.proofs.Closed.{Came, unread as end-unread, found, misnamed, none, out, came}
+use Rattle.conditions.proofs.Closed.{Came, unread as end_unread, found, misnamed, none, out, came}
 
 clash : {P : Type 0} {k x : ℕ} {p : Path} → accepted k p ≡ refused x → P
 clash e = let z : ◌≡◌ {A = ℕ} 0 1 = cc in absurd (omega arith)
@@ -72,8 +72,8 @@ module _ (R : Request) (lent : Lends R) where
     closes c = (c.earlier, c.talk ∙ ap (λ (l : List Turn). c.earlier ++ (l ++ (word k p 0 ∷ []))) (all_yes k p c.cleared))
 
     -- a path that the search accepts stands, by answers of this dialogue
-    answers-given : Acceptable (world_for R) (end_of R) (Given (world_for R) turns) (SaidContent turns) k p → Acceptable (world_for R) (end_of R) (Answered R lent (SaidYes turns)) (SaidContent turns) k p
-    answers-given = weaker (world_for R) (end_of R) k p (given turns) (λ w. w)
+    answers_given : Acceptable (world_for R) (end_of R) (Given (world_for R) turns) (SaidContent turns) k p → Acceptable (world_for R) (end_of R) (Answered R lent (SaidYes turns)) (SaidContent turns) k p
+    answers_given = weaker (world_for R) (end_of R) k p (given turns) (λ w. w)
 
   -- the first candidates are anchors, the others intermediates
   pub sorted : Sorted (world_for R) (length R.subjects) (length R.issuers)
@@ -101,11 +101,11 @@ module _ (R : Request) (lent : Lends R) where
   module _ (B : Budgets) (turns : List Turn) where
     -- what the search decided
     looked : (q : Outcome) → Leads (search_of R B) turns q → SearchDecided (world_for R) (end_of R) B.signatures B.extensions B.comparisons turns q
-    looked q l = search-decided (world_for R) (end_of R) B.signatures B.extensions B.comparisons turns q l
+    looked q l = search_decided (world_for R) (end_of R) B.signatures B.extensions B.comparisons turns q l
 
-    done-with : (q : Outcome) → Leads (search_of R B) turns q → Work R B turns
+    done_with : (q : Outcome) → Leads (search_of R B) turns q → Work R B turns
     unfolding world_of
-    done-with q l =
+    done_with q l =
         let d = looked q l in
         let A = length R.subjects in
         let I = length R.issuers in
@@ -116,10 +116,10 @@ module _ (R : Request) (lent : Lends R) where
       yes k p e = by (came R B turns r h)
         where
           by : Came R B turns r → Meets R (SaidYes turns) (SaidContent turns) k p
-          by (end-unread x u t z) = clash (sym e ∙ z)
+          by (end_unread x u t z) = clash (sym e ∙ z)
           by (found j q l g z) =
-              (meets-acceptable R lent (SaidYes turns) (SaidContent turns) k p).1
-              (answers-given turns k p ((looked (accepted j q) l).yes k p (sym z ∙ e)), good_named R lent g)
+              (meets_acceptable R lent (SaidYes turns) (SaidContent turns) k p).1
+              (answers_given turns k p ((looked (accepted j q) l).yes k p (sym z ∙ e)), good_named R lent g)
           by (misnamed j q x l g z) = clash (sym e ∙ z)
           by (none x l z) = clash (sym e ∙ z)
           by (out x l z) = spent_accepted (sym z ∙ e)
@@ -128,7 +128,7 @@ module _ (R : Request) (lent : Lends R) where
       ended k p e = by (came R B turns r h)
         where
           by : Came R B turns r → EndsWith turns (yeses k p ++ (word k p 0 ∷ []))
-          by (end-unread x u t z) = clash (sym e ∙ z)
+          by (end_unread x u t z) = clash (sym e ∙ z)
           by (found j q l g z) = closes turns k p ((looked (accepted j q) l).closing k p (sym z ∙ e))
           by (misnamed j q x l g z) = clash (sym e ∙ z)
           by (none x l z) = clash (sym e ∙ z)
@@ -138,29 +138,29 @@ module _ (R : Request) (lent : Lends R) where
       no x e k p m = by (came R B turns r h)
         where
           by : Came R B turns r → ⊥
-          by (end-unread y u t z) = unread_unnamed y u m.named
+          by (end_unread y u t z) = unread_unnamed y u m.named
           by (found j q l g z) = clash (sym z ∙ e)
           by (misnamed j q y l g z) = omega (arith, sym g ∙ named_good R lent m.named)
           by (none y l z) =
               (looked (refused y) l).no y refl k p
-              (weaker (world_for R) (end_of R) k p (unopposed turns) (λ w. w) ((meets-acceptable R lent (NotDenied turns) (NotDeclined turns) k p).0 m).0)
+              (weaker (world_for R) (end_of R) k p (unopposed turns) (λ w. w) ((meets_acceptable R lent (NotDenied turns) (NotDeclined turns) k p).0 m).0)
           by (out y l z) = spent_refused (sym z ∙ e)
 
       which : (x : ℕ) → r ≡ refused x → Which R B turns x
       which x e = by (came R B turns r h)
         where
           by : Came R B turns r → Which R B turns x
-          by (end-unread y u t z) = let q : y ≡ x = cc in unread (u ∙ ap NotRead q) t
+          by (end_unread y u t z) = let q : y ≡ x = cc in unread (u ∙ ap NotRead q) t
           by (found j q l g z) = clash (sym z ∙ e)
           by (misnamed j q y l g z) = let i : suc y ≡ x = cc in other_name j q l (g ∙ i) (λ m. omega (arith, sym g ∙ named_good R lent m))
-          by (none y l z) = no-path ((looked (refused y) l).which x (sym z ∙ e))
+          by (none y l z) = no_path ((looked (refused y) l).which x (sym z ∙ e))
           by (out y l z) = spent_refused (sym z ∙ e)
 
       not_fatal : (x : ℕ) → r ≡ refused x → is_fatal x ≡ false
       not_fatal x e = by (came R B turns r h)
         where
           by : Came R B turns r → is_fatal x ≡ false
-          by (end-unread y u t z) = let q : y ≡ x = cc in mild_not_fatal x (unread_mild x (u ∙ ap NotRead q))
+          by (end_unread y u t z) = let q : y ≡ x = cc in mild_not_fatal x (unread_mild x (u ∙ ap NotRead q))
           by (found j q l g z) = clash (sym z ∙ e)
           by (misnamed j q y l g z) = let i : suc y ≡ x = cc in mild_not_fatal x (subst (λ (w : ℕ). Mild w) (g ∙ i) (name_mild R lent))
           by (none y l z) = (looked (refused y) l).not_fatal x (sym z ∙ e)
@@ -170,7 +170,7 @@ module _ (R : Request) (lent : Lends R) where
       last x e = by (came R B turns r h)
         where
           by : Came R B turns r → SearchDecided (world_for R) (end_of R) B.signatures B.extensions B.comparisons turns (spent x)
-          by (end-unread y u t z) = spent_refused (sym e ∙ z)
+          by (end_unread y u t z) = spent_refused (sym e ∙ z)
           by (found j q l g z) = spent_accepted (sym e ∙ z)
           by (misnamed j q y l g z) = spent_refused (sym e ∙ z)
           by (none y l z) = spent_refused (sym e ∙ z)
@@ -180,11 +180,11 @@ module _ (R : Request) (lent : Lends R) where
       work = by (came R B turns r h)
         where
           by : Came R B turns r → Work R B turns
-          by (end-unread y u t z) = nothing y u t
-          by (found j q l g z) = done-with (accepted j q) l
-          by (misnamed j q y l g z) = done-with (accepted j q) l
-          by (none y l z) = done-with (refused y) l
-          by (out y l z) = done-with (spent y) l
+          by (end_unread y u t z) = nothing y u t
+          by (found j q l g z) = done_with (accepted j q) l
+          by (misnamed j q y l g z) = done_with (accepted j q) l
+          by (none y l z) = done_with (refused y) l
+          by (out y l z) = done_with (spent y) l
 
       -- THEOREM
       pub decided : Decided R B turns r
@@ -209,11 +209,11 @@ module _ (R : Request) (lent : Lends R) where
       ended_so : SearchDecided (world_for R) (end_of R) B.signatures B.extensions B.comparisons (talk (search_of R B) said) (accepted k p)
       ended_so = looked B (talk (search_of R B) said) (accepted k p) (followed (search_of R B) said (accepted k p) e)
 
-      pub found-stands : (Yes : ℕ → What → Type 0) → ((key : ℕ) (what : What) → SaidYes (talk (search_of R B) said) key what → Yes key what) → Stands R Yes k p
-      found-stands Yes f =
+      pub found_stands : (Yes : ℕ → What → Type 0) → ((key : ℕ) (what : What) → SaidYes (talk (search_of R B) said) key what → Yes key what) → Stands R Yes k p
+      found_stands Yes f =
           let turns = talk (search_of R B) said in
           stands R lent Yes (SaidContent turns) k p
           (weaker (world_for R) (end_of R) k p (λ key what y. let g = given turns key what y in (g.0, f key what g.1)) (λ w. w) (ended_so.yes k p refl))
 
-      pub found-closes : EndsWith (talk (search_of R B) said) (yeses k p ++ (word k p 0 ∷ []))
-      found-closes = closes (talk (search_of R B) said) k p (ended_so.closing k p refl)
+      pub found_closes : EndsWith (talk (search_of R B) said) (yeses k p ++ (word k p 0 ∷ []))
+      found_closes = closes (talk (search_of R B) said) k p (ended_so.closing k p refl)

@@ -59,7 +59,7 @@ module _ (s : List ℕ) (bytes : Bytes s) (from to : ℕ) (t : List ℕ) (ts : L
           is = part_split s from lists.permitted.end to l.first.later w;
           permitted_is = f.0;
           excluded_is = rw (← h) g.0;
-          named = (r.permitted-named, r.excluded-named);
+          named = (r.permitted_named, r.excluded_named);
         };
         short = (f.1, g.1);
         rule = below_exact s bytes lists (t ∷ ts) (o ∷ os) bs are z;
@@ -143,17 +143,17 @@ module _ (t : List ℕ) (ts : List (List ℕ)) (o : Contents) (os : List Content
     λ z.
         let b = both_pass (constraints anchor 0 (length anchor) (t ∷ ts)) (issuers (t ∷ ts)) z in
         let m : Met Passes (part anchor 0 (length anchor)) (o ∷ os) = constraints_exact anchor ba 0 (length anchor) t ts o os bs are b.first in
-        record { anchor-met = rw (part_whole anchor) at m; issuers-met = issuers_exact (t ∷ ts) (o ∷ os) bs are b.second },
+        record { anchor_met = rw (part_whole anchor) at m; issuers_met = issuers_exact (t ∷ ts) (o ∷ os) bs are b.second },
     λ x.
-        let m : Met Passes (part anchor 0 (length anchor)) (o ∷ os) = rw (part_whole anchor) x.anchor-met in
-        after_passes (constraints anchor 0 (length anchor) (t ∷ ts)) (issuers (t ∷ ts)) (constraints_clean anchor ba 0 (length anchor) t ts o os bs are (omega arith) (omega arith) m) (issuers_clean (t ∷ ts) (o ∷ os) bs are x.issuers-met),
+        let m : Met Passes (part anchor 0 (length anchor)) (o ∷ os) = rw (part_whole anchor) x.anchor_met in
+        after_passes (constraints anchor 0 (length anchor) (t ∷ ts)) (issuers (t ∷ ts)) (constraints_clean anchor ba 0 (length anchor) t ts o os bs are (omega arith) (omega arith) m) (issuers_clean (t ∷ ts) (o ∷ os) bs are x.issuers_met),
   )
 
   free_both : ((path_constraints anchor false (t ∷ ts)).refusal ≡ 0 → ExactlyMet absent (o ∷ os)) × (ExactlyMet absent (o ∷ os) → (path_constraints anchor false (t ∷ ts)).refusal ≡ 0)
   unfolding path_constraints_in anchored_in
   free_both = (
-    λ z. record { anchor-met = tt; issuers-met = issuers_exact (t ∷ ts) (o ∷ os) bs are (both_pass clean (issuers (t ∷ ts)) z).second },
-    λ x. after_passes clean (issuers (t ∷ ts)) refl (issuers_clean (t ∷ ts) (o ∷ os) bs are x.issuers-met),
+    λ z. record { anchor_met = tt; issuers_met = issuers_exact (t ∷ ts) (o ∷ os) bs are (both_pass clean (issuers (t ∷ ts)) z).second },
+    λ x. after_passes clean (issuers (t ∷ ts)) refl (issuers_clean (t ∷ ts) (o ∷ os) bs are x.issuers_met),
   )
 
 -- ---- the request

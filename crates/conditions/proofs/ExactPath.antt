@@ -55,10 +55,10 @@ module _ (s : List ℕ) (lists : Subtrees) (t : List ℕ) (bt : Bytes t) (to : �
   names_from fuel at = run to (λ a (u : Unit {0}). clean) (λ a u. next_name s lists t (general_name t a to)) fuel at tt
 
   module _ (bytes : Bytes s) where
-    names-exact : (fuel at : ℕ) → to - at ≤ fuel → (names_from fuel at).refusal ≡ 0 → NamesRead (permitted_in s bytes lists) (excluded_in s bytes lists) (part t at to)
+    names_exact : (fuel at : ℕ) → to - at ≤ fuel → (names_from fuel at).refusal ≡ 0 → NamesRead (permitted_in s bytes lists) (excluded_in s bytes lists) (part t at to)
     unfolding run encoded Each next_name on_name
-    names-exact zero at h z = record { names = []; is = part_empty t at to (omega arith); named = tt; conform = tt }
-    names-exact (suc fuel) at h z = by_test (λ at' h' z'. names-exact fuel at' h' z') (ltb at to) refl z
+    names_exact zero at h z = record { names = []; is = part_empty t at to (omega arith); named = tt; conform = tt }
+    names_exact (suc fuel) at h z = by_test (λ at' h' z'. names_exact fuel at' h' z') (ltb at to) refl z
       where
         found : ((at' : ℕ) → to - at' ≤ fuel → (names_from fuel at').refusal ≡ 0 → NamesRead (permitted_in s bytes lists) (excluded_in s bytes lists) (part t at' to)) → (g : Name) → general_name t at to ≡ g
             → (on_name g (tally 0) (λ kind start end. after (name s lists kind (part t start end)) (names_from fuel end))).refusal ≡ 0 → NamesRead (permitted_in s bytes lists) (excluded_in s bytes lists) (part t at to)
@@ -81,15 +81,15 @@ module _ (s : List ℕ) (lists : Subtrees) (t : List ℕ) (bt : Bytes t) (to : �
         by_test rec false e y = record { names = []; is = part_empty t at to (ltb-false _ _ e); named = tt; conform = tt }
 
   module _ (permitted excluded : List General) (both : BothAt s lists permitted excluded) (inside : to ≤ length t) where
-    names-clean : (fuel at : ℕ) (ns : List General) → to - at ≤ fuel → at ≤ to → part t at to ≡ encoded ns → Each Named ns → Each (Exactly permitted excluded) ns → (names_from fuel at).refusal ≡ 0
+    names_clean : (fuel at : ℕ) (ns : List General) → to - at ≤ fuel → at ≤ to → part t at to ≡ encoded ns → Each Named ns → Each (Exactly permitted excluded) ns → (names_from fuel at).refusal ≡ 0
     unfolding run encoded Each next_name on_name
-    names-clean zero at ns h a e k x = refl
-    names-clean (suc fuel) at [] h a e k x = let l : to - at ≡ 0 = sym (part_length t at to inside) ∙ ap length e in rw (le-ltb at to (omega arith))
-    names-clean (suc fuel) at (n ∷ ns) h a e k x =
+    names_clean zero at ns h a e k x = refl
+    names_clean (suc fuel) at [] h a e k x = let l : to - at ≡ 0 = sym (part_length t at to inside) ∙ ap length e in rw (le-ltb at to (omega arith))
+    names_clean (suc fuel) at (n ∷ ns) h a e k x =
         let r = read_name t at to n (encoded ns) k.0 a inside e in
         let b : Bytes n.content = rw (← r.content) (bytes_part t r.start r.end bt) in
         let z : (name s lists n.kind (part t r.start r.end)).refusal ≡ 0 = rw r.content (name_clean s lists permitted excluded both n b x.0) in
-        let w = names-clean fuel r.end ns (omega (arith, r.later, h)) r.inside r.after k.1 x.1 in
+        let w = names_clean fuel r.end ns (omega (arith, r.later, h)) r.inside r.after k.1 x.1 in
         rw (lt-ltb at to (omega (arith, r.later, r.inside)), r.name) (after_passes (name s lists n.kind (part t r.start r.end)) (names_from fuel r.end) z w)
 
 -- ---- one certificate
@@ -118,14 +118,14 @@ module _ (t : List ℕ) (bt : Bytes t) (c : Certificate) (read : read_certificat
   subject_here = record { kind = directory_name; content = part t c.subject.start c.subject.end }
 
   module _ (s : List ℕ) (bytes : Bytes s) (lists : Subtrees) where
-    certificate-exact : (certificate_as s lists (lent t)).refusal ≡ 0 → ListsRead s bytes lists × Passes (permitted_in s bytes lists) (excluded_in s bytes lists) (contents_of t c)
+    certificate_exact : (certificate_as s lists (lent t)).refusal ≡ 0 → ListsRead s bytes lists × Passes (permitted_in s bytes lists) (excluded_in s bytes lists) (contents_of t c)
     unfolding alternatives walk
-    certificate-exact z =
+    certificate_exact z =
         let q = certificate_is s lists (lent t) c read in
         let b = both_pass _ _ (ap (λ (x : Tally). x.refusal) (sym q) ∙ z) in
         let from = c.known.alternative_name.start in
         let to = c.known.alternative_name.end in
-        let r = names-exact s lists t bt to bytes (to - from) from (omega arith) b.first in
+        let r = names_exact s lists t bt to bytes (to - from) from (omega arith) b.first in
         let n = name_exact s bytes lists subject_here (bytes_part t _ _ bt) b.second in (
           n.0,
           record {
@@ -137,14 +137,14 @@ module _ (t : List ℕ) (bt : Bytes t) (c : Certificate) (read : read_certificat
           },
         )
 
-    certificate-clean : (permitted excluded : List General) → BothAt s lists permitted excluded → Passes permitted excluded (contents_of t c) → (certificate_as s lists (lent t)).refusal ≡ 0
+    certificate_clean : (permitted excluded : List General) → BothAt s lists permitted excluded → Passes permitted excluded (contents_of t c) → (certificate_as s lists (lent t)).refusal ≡ 0
     unfolding alternatives walk
-    certificate-clean permitted excluded both x =
+    certificate_clean permitted excluded both x =
         let q = certificate_is s lists (lent t) c read in
         let from = c.known.alternative_name.start in
         let to = c.known.alternative_name.end in
         let i = (read_inside t bt true c read).known.alternative_name in
-        let a = names-clean s lists t bt to permitted excluded both i.inside (to - from) from x.alternative (omega arith) i.ordered (sym content_is ∙ x.is) x.named x.conform in
+        let a = names_clean s lists t bt to permitted excluded both i.inside (to - from) from x.alternative (omega arith) i.ordered (sym content_is ∙ x.is) x.named x.conform in
         let n = name_clean s lists permitted excluded both subject_here (bytes_part t _ _ bt) (any_directory permitted excluded (subject_name (contents_of t c)) subject_here refl refl x.subject) in
         ap (λ (y : Tally). y.refusal) q ∙ after_passes _ _ a n
 
@@ -164,11 +164,11 @@ module _ (s : List ℕ) (bytes : Bytes s) (lists : Subtrees) where
   below_exact (t ∷ ts) (o ∷ os) b a z =
       let p = both_pass _ _ z in
       let r = certificate_reads t o a.0 in
-      (rw (← r.2) (certificate-exact t b.0 r.0 r.1 s bytes lists p.first).1, below_exact ts os b.1 a.1 p.second)
+      (rw (← r.2) (certificate_exact t b.0 r.0 r.1 s bytes lists p.first).1, below_exact ts os b.1 a.1 p.second)
 
   pub below_read : (t : List ℕ) (ts : List (List ℕ)) (o : Contents) → Bytes t → IsCertificate t o → (below s lists (t ∷ ts)).refusal ≡ 0 → ListsRead s bytes lists
   unfolding below_in
-  below_read t ts o b a z = let r = certificate_reads t o a in (certificate-exact t b r.0 r.1 s bytes lists (both_pass _ _ z).first).0
+  below_read t ts o b a z = let r = certificate_reads t o a in (certificate_exact t b r.0 r.1 s bytes lists (both_pass _ _ z).first).0
 
   pub below_clean : (permitted excluded : List General) → BothAt s lists permitted excluded → (ts : List (List ℕ)) (os : List Contents) → EachBytes ts → Are' ts os → EachOf (Passes permitted excluded) os → (below s lists ts).refusal ≡ 0
   unfolding below_in EachBytes Are' EachOf
@@ -178,4 +178,4 @@ module _ (s : List ℕ) (bytes : Bytes s) (lists : Subtrees) where
   below_clean permitted excluded both (t ∷ ts) (o ∷ os) b a x =
       let r = certificate_reads t o a.0 in
       let y : Passes permitted excluded (contents_of t r.0) = rw r.2 x.0 in
-      after_passes _ _ (certificate-clean t b.0 r.0 r.1 s bytes lists permitted excluded both y) (below_clean permitted excluded both ts os b.1 a.1 x.1)
+      after_passes _ _ (certificate_clean t b.0 r.0 r.1 s bytes lists permitted excluded both y) (below_clean permitted excluded both ts os b.1 a.1 x.1)

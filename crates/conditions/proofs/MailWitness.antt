@@ -23,7 +23,7 @@ use Rattle.conditions.specs.RfcNames.{MailOf}
 use Rattle.conditions.specs.RfcMail.{Mailbox, MailWithin, of_mailbox, of_host, of_domain, MailKept, MailWitness, exception_needed_type}
 use Rattle.subtrees.proofs.Once.{constraints_once}
 use Rattle.conditions.proofs.NeverWeaker.{d21}
-use Rattle.extensions.specs.Accepted.{occurs, none as no-extension}
+use Rattle.extensions.specs.Accepted.{occurs, none as no_extension}
 use Rattle.cert.specs.Accepted.{Readable}
 use Rattle.subtrees.specs.ExactNames.{Exactly}
 
@@ -71,7 +71,7 @@ bytes_are = refl
 
 rules : Readable true skeleton
 unfolding certificate_content tbs_certificate tbs_content version explicit integer sequence bit_string extensions encoding length_bytes listed occurs
-rules = record { short = lit< tt; each = no-extension; once = λ n k. lit≤ tt }
+rules = record { short = lit< tt; each = no_extension; once = λ n k. lit≤ tt }
 
 is_certificate : IsCertificate d21_certificate contents
 unfolding value_in listed
@@ -111,19 +111,19 @@ unfolding Each Some
 subject_exact =
     record {
       comparable = ((λ k. absurd (omega (arith, k)), tt), tt);
-      within = λ some. absurd (other-kind some);
+      within = λ some. absurd (other_kind some);
       without = tt;
     }
   where
-    other-kind : Some (OfKind (subject_name contents)) (entry ∷ []) → ⊥
-    other-kind (inl k) = omega (arith, k)
-    other-kind (inr k) = k
+    other_kind : Some (OfKind (subject_name contents)) (entry ∷ []) → ⊥
+    other_kind (inl k) = omega (arith, k)
+    other_kind (inr k) = k
 
 exactly_met : ExactlyMet (present d21_constraints) (contents ∷ [])
 unfolding Issuers EachOf Each encoded content_in subtrees encoding length_bytes
 exactly_met =
     record {
-      anchor-met =
+      anchor_met =
           record {
             permitted = entry ∷ [];
             excluded = [];
@@ -131,7 +131,7 @@ exactly_met =
             short = (lit< tt, lit< tt);
             rule = (record { alternative = []; is = refl; named = tt; conform = tt; subject = subject_exact }, tt);
           };
-      issuers-met = tt;
+      issuers_met = tt;
     }
 
 -- ---- RFC 5280's: m@elsewhere is not at a.b
@@ -190,5 +190,5 @@ d21_witness =
 pub exception_needed : exception_needed_type
 unfolding EachOf
 exception_needed other kept h =
-    let m = (h (present d21_constraints) (contents ∷ []) exactly_met).anchor-met in
+    let m = (h (present d21_constraints) (contents ∷ []) exactly_met).anchor_met in
     all_fail other kept m.permitted m.excluded m.is (m.rule.0 mail mail_of)

@@ -28,7 +28,7 @@ use Rattle.names.specs.declared.general.Verdict.TheVariants.{Good, Refused}
 use Rattle.labels.specs.Names.{wanted_name}
 use Rattle.names.specs.General.{ForDns, ForIp, Reached}
 use Rattle.names.specs.Model.{good_for_dns, good_for_ip}
-use Rattle.names.proofs.Wanted.{dns-good, dns-refused, dns_malformed, ip-good, ip-refused}
+use Rattle.names.proofs.Wanted.{dns_good, dns_refused, dns_malformed, ip_good, ip_refused}
 use Rattle.checks.specs.Conditions.{Contents}
 use Rattle.path.specs.Model.{on_reading}
 use Rattle.checks.proofs.Contents.{contents_of}
@@ -81,35 +81,35 @@ module _ (R : Request) (lent : Lends R) where
 
     -- ---- each kind of name
     module _ (from to : ℕ) (ordered : from ≤ to) (inside : to ≤ length R.end) where
-      dns-names : (v : Verdict) → good_for_dns R.end from to R.name ≡ v → refusal_in v ≡ 0 → (wanted_name R.name ≡ true) × Reached (ForDns R.name) (part R.end from to)
+      dns_names : (v : Verdict) → good_for_dns R.end from to R.name ≡ v → refusal_in v ≡ 0 → (wanted_name R.name ≡ true) × Reached (ForDns R.name) (part R.end from to)
       unfolding refusal_in
-      dns-names v e h = by (wanted_name R.name) refl v e h
+      dns_names v e h = by (wanted_name R.name) refl v e h
         where
           by : (t : Bool) → wanted_name R.name ≡ t → (v : Verdict) → good_for_dns R.end from to R.name ≡ v → refusal_in v ≡ 0 → (wanted_name R.name ≡ true) × Reached (ForDns R.name) (part R.end from to)
-          by true w Good e h = (w, (dns-good R.name w R.end lent.end from to ordered inside).0 e)
+          by true w Good e h = (w, (dns_good R.name w R.end lent.end from to ordered inside).0 e)
           by true w (Refused x) e h =
-              absurd (⊎_elim (λ p. omega (arith, p.0)) (λ p. omega (arith, p.0)) (dns-refused R.name w R.end lent.end from to ordered inside x e))
+              absurd (⊎_elim (λ p. omega (arith, p.0)) (λ p. omega (arith, p.0)) (dns_refused R.name w R.end lent.end from to ordered inside x e))
           by false w Good e h = absurd (let q = sym e ∙ dns_malformed R.end from to R.name w in let z : ◌≡◌ {A = ℕ} 0 1 = cc in omega arith)
           by false w (Refused x) e h = absurd (let q = sym e ∙ dns_malformed R.end from to R.name w in let z : x ≡ malformed_dns_identifier = cc in omega arith)
 
-      ip-names : (v : Verdict) → good_for_ip R.end from to R.name ≡ v → refusal_in v ≡ 0 → Reached (ForIp R.name) (part R.end from to)
+      ip_names : (v : Verdict) → good_for_ip R.end from to R.name ≡ v → refusal_in v ≡ 0 → Reached (ForIp R.name) (part R.end from to)
       unfolding refusal_in
-      ip-names Good e h = (ip-good R.name R.end lent.end from to ordered inside).0 e
-      ip-names (Refused x) e h = absurd (⊎_elim (λ p. omega (arith, p.0)) (λ p. omega (arith, p.0)) (ip-refused R.name R.end lent.end from to ordered inside x e))
+      ip_names Good e h = (ip_good R.name R.end lent.end from to ordered inside).0 e
+      ip_names (Refused x) e h = absurd (⊎_elim (λ p. omega (arith, p.0)) (λ p. omega (arith, p.0)) (ip_refused R.name R.end lent.end from to ordered inside x e))
 
-      dns-mild : (v : Verdict) → good_for_dns R.end from to R.name ≡ v → Mild (refusal_in v)
+      dns_mild : (v : Verdict) → good_for_dns R.end from to R.name ≡ v → Mild (refusal_in v)
       unfolding refusal_in
-      dns-mild Good e = omega arith
-      dns-mild (Refused x) e = by (wanted_name R.name) refl
+      dns_mild Good e = omega arith
+      dns_mild (Refused x) e = by (wanted_name R.name) refl
         where
           by : (t : Bool) → wanted_name R.name ≡ t → Mild x
-          by true w = ⊎_elim (λ p. omega (arith, p.0)) (λ p. omega (arith, p.0)) (dns-refused R.name w R.end lent.end from to ordered inside x e)
+          by true w = ⊎_elim (λ p. omega (arith, p.0)) (λ p. omega (arith, p.0)) (dns_refused R.name w R.end lent.end from to ordered inside x e)
           by false w = let q = sym e ∙ dns_malformed R.end from to R.name w in let z : x ≡ malformed_dns_identifier = cc in omega arith
 
-      ip-mild : (v : Verdict) → good_for_ip R.end from to R.name ≡ v → Mild (refusal_in v)
+      ip_mild : (v : Verdict) → good_for_ip R.end from to R.name ≡ v → Mild (refusal_in v)
       unfolding refusal_in
-      ip-mild Good e = omega arith
-      ip-mild (Refused x) e = ⊎_elim (λ p. omega (arith, p.0)) (λ p. omega (arith, p.0)) (ip-refused R.name R.end lent.end from to ordered inside x e)
+      ip_mild Good e = omega arith
+      ip_mild (Refused x) e = ⊎_elim (λ p. omega (arith, p.0)) (λ p. omega (arith, p.0)) (ip_refused R.name R.end lent.end from to ordered inside x e)
 
     abbrev from : ℕ
     from = c.known.alternative_name.start
@@ -123,31 +123,31 @@ module _ (R : Request) (lent : Lends R) where
     within : to ≤ length R.end
     within = (read_inside R.end lent.end true c read).known.alternative_name.inside
 
-    good-names : name_in R.end R.kind R.name c ≡ 0 → Names R (names c)
+    good_names : name_in R.end R.kind R.name c ≡ 0 → Names R (names c)
     unfolding name_in
-    good-names h = by (eqb R.kind 0) refl (eqb R.kind 1) refl (eqb R.kind 2) refl h
+    good_names h = by (eqb R.kind 0) refl (eqb R.kind 1) refl (eqb R.kind 2) refl h
       where
         by : (a : Bool) → eqb R.kind 0 ≡ a → (b : Bool) → eqb R.kind 1 ≡ b → (d : Bool) → eqb R.kind 2 ≡ d
             → cond a 0 (cond b (refusal_in (good_for_dns R.end from to R.name)) (cond d (refusal_in (good_for_ip R.end from to R.name)) cert_not_valid_for_name)) ≡ 0 → Names R (names c)
         by true p b q d r z = unwanted (eqb-true R.kind 0 p)
-        by false p true q d r z = let g = dns-names from to in_order within (good_for_dns R.end from to R.name) refl z in dns (eqb-true R.kind 1 q) g.0 g.1
-        by false p false q true r z = ip (eqb-true R.kind 2 r) (ip-names from to in_order within (good_for_ip R.end from to R.name) refl z)
+        by false p true q d r z = let g = dns_names from to in_order within (good_for_dns R.end from to R.name) refl z in dns (eqb-true R.kind 1 q) g.0 g.1
+        by false p false q true r z = ip (eqb-true R.kind 2 r) (ip_names from to in_order within (good_for_ip R.end from to R.name) refl z)
         by false p false q false r z = absurd (omega arith)
 
-    names-good : Names R (names c) → name_in R.end R.kind R.name c ≡ 0
+    names_good : Names R (names c) → name_in R.end R.kind R.name c ≡ 0
     unfolding name_in refusal_in
-    names-good (unwanted k) = rw k
-    names-good (dns k w g) = rw (k, (dns-good R.name w R.end lent.end from to in_order within).1 g)
-    names-good (ip k g) = rw (k, (ip-good R.name R.end lent.end from to in_order within).1 g)
+    names_good (unwanted k) = rw k
+    names_good (dns k w g) = rw (k, (dns_good R.name w R.end lent.end from to in_order within).1 g)
+    names_good (ip k g) = rw (k, (ip_good R.name R.end lent.end from to in_order within).1 g)
 
-    name-in-mild : Mild (name_in R.end R.kind R.name c)
+    name_in_mild : Mild (name_in R.end R.kind R.name c)
     unfolding name_in
-    name-in-mild = by (eqb R.kind 0) (eqb R.kind 1) (eqb R.kind 2)
+    name_in_mild = by (eqb R.kind 0) (eqb R.kind 1) (eqb R.kind 2)
       where
         by : (a b d : Bool) → Mild (cond a 0 (cond b (refusal_in (good_for_dns R.end from to R.name)) (cond d (refusal_in (good_for_ip R.end from to R.name)) cert_not_valid_for_name)))
         by true b d = omega arith
-        by false true d = dns-mild from to in_order within (good_for_dns R.end from to R.name) refl
-        by false false true = ip-mild from to in_order within (good_for_ip R.end from to R.name) refl
+        by false true d = dns_mild from to in_order within (good_for_dns R.end from to R.name) refl
+        by false false true = ip_mild from to in_order within (good_for_ip R.end from to R.name) refl
         by false false false = omega arith
 
   -- ---- the end entity
@@ -159,7 +159,7 @@ module _ (R : Request) (lent : Lends R) where
       by (Accepted c) e f h = record {
         contents = contents_of R.end c;
         readable = reads_certificate R.end lent.end (contents_of R.end c) (c, e, refl);
-        names = subst (λ (l : List ℕ). Names R l) (sym (content_is c e)) (good-names c e h);
+        names = subst (λ (l : List ℕ). Names R l) (sym (content_is c e)) (good_names c e h);
       }
       by (NotRead x) e (reading_not f) h = absurd (omega (arith, f.0))
 
@@ -169,12 +169,12 @@ module _ (R : Request) (lent : Lends R) where
       let r = certificate_reads R.end n.contents n.readable in
       let c = r.0 in
       let e : content_in n.contents.subject_alt_name ≡ names c = sym (ap (λ (o : Contents). content_in o.subject_alt_name) r.2) ∙ content_is c r.1 in
-      rw r.1 (names-good c r.1 (subst (λ (l : List ℕ). Names R l) e n.names))
+      rw r.1 (names_good c r.1 (subst (λ (l : List ℕ). Names R l) e n.names))
 
   pub name_mild : Mild (name_of R.end R.kind R.name)
   unfolding name_of on_reading
   name_mild = by (read_certificate R.end true) refl (read_fair R.end true)
     where
       by : (r : Reading) → read_certificate R.end true ≡ r → ReadingFair r → Mild (on_reading r (λ e. e) (name_in R.end R.kind R.name))
-      by (Accepted c) e f = name-in-mild c e
+      by (Accepted c) e f = name_in_mild c e
       by (NotRead x) e (reading_not f) = f.1

@@ -52,7 +52,7 @@ module _ (other : Others) where
 
 -- THEOREM
 pub never_weaker : never_weaker_type
-never_weaker other anchor path h = record { anchor-met = own other anchor path h.anchor-met; issuers-met = issuers other path h.issuers-met }
+never_weaker other anchor path h = record { anchor_met = own other anchor path h.anchor_met; issuers_met = issuers other path h.issuers_met }
 
 -- ---- D21: the subject of the certificate that shows the exception has a mail address, m@elsewhere
 pub d21 : MailIn (49 ∷ 26 ∷ 48 ∷ 24 ∷ 6 ∷ 9 ∷ 42 ∷ 134 ∷ 72 ∷ 134 ∷ 247 ∷ 13 ∷ 1 ∷ 9 ∷ 1 ∷ 22 ∷ 11 ∷ 109 ∷ 64 ∷ 101 ∷ 108 ∷ 115 ∷ 101 ∷ 119 ∷ 104 ∷ 101 ∷ 114 ∷ 101 ∷ [])

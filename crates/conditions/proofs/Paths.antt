@@ -120,7 +120,7 @@ module _ (R : Request) (lent : Lends R) where
               → InPlace os → Each (λ p. ForPurpose R.purpose R.demanded p.ext_key_usage) os → Apart os → Shape (i ∷ (n ∷ ns))
           go [] r l t v p u a = absurd r
           go (q ∷ os) r l t v p u a =
-              let head : x.head ≡ q = one_contents (bytes_of R n) x.head q x.newest-is r.0 in
+              let head : x.head ≡ q = one_contents (bytes_of R n) x.head q x.newest_is r.0 in
               let link : o.subject ≡ q.issuer = sym (ap (λ (y : Contents). y.subject) same) ∙ x.chained ∙ ap (λ (y : Contents). y.issuer) head in
               let long = as_long ns os r.1 in
               record {
@@ -150,7 +150,7 @@ module _ (R : Request) (lent : Lends R) where
           few = omega arith;
           candidate = m.0;
           head = q;
-          newest-is = r.1.0;
+          newest_is = r.1.0;
           next = o;
           next_is = r.0;
           chained = l.0;
@@ -216,7 +216,7 @@ module _ (R : Request) (lent : Lends R) where
       chained [] x (o ∷ os) r l = absurd r
       chained (n ∷ ns) x [] r l = absurd r
       chained (n ∷ ns) x (o ∷ os) r l =
-          let head : x.head ≡ o = one_contents (bytes_of R n) x.head o x.newest-is r.0 in
+          let head : x.head ≡ o = one_contents (bytes_of R n) x.head o x.newest_is r.0 in
           (x.chained ∙ ap (λ (y : Contents). y.issuer) head, l)
 
       -- what the constraints come to, of a path that can be read
@@ -242,7 +242,7 @@ module _ (R : Request) (lent : Lends R) where
             readable = s.readable;
             chained = chained path x s.contents s.readable s.linked;
             trusted = s.trusted;
-            anchor-trusted = x.trusted;
+            anchor_trusted = x.trusted;
             valid = s.valid;
             placed = s.placed;
             purposed = s.purposed;
@@ -263,14 +263,14 @@ module _ (R : Request) (lent : Lends R) where
       unfolding Numbers Readable Chain newest
       above [] os few c k w t m r l = absurd m
       above (n ∷ ns) [] few c k w t m r l = absurd r
-      above (n ∷ ns) (o ∷ os) few c k w t m r l = record { few = few; candidate = c; keyed = k; whole = w; head = o; newest-is = r.0; chained = l.0; trusted = t }
+      above (n ∷ ns) (o ∷ os) few c k w t m r l = record { few = few; candidate = c; keyed = k; whole = w; head = o; newest_is = r.0; chained = l.0; trusted = t }
 
       pub acceptable : (path : Path) → Stands R Yes anchor path → Content anchor path → Acceptable (world_for R) (end_of R) Answered Content anchor path
       unfolding world_of
       acceptable path d content =
           let order = ordered path d.contents d.few d.numbers d.readable (linked (get_or R.subjects anchor []) d.contents d.chained) d.trusted d.valid d.placed d.purposed d.apart in
           let g = in_order_grown R.issuers R.end R.subjects R.keys R.constraints R.bound R.distrusted R.time R.purpose R.demanded (bytes R lent) path order in
-          let x = above path d.contents d.few d.anchored d.keyed d.whole d.anchor-trusted d.numbers d.readable d.chained in
+          let x = above path d.contents d.few d.anchored d.keyed d.whole d.anchor_trusted d.numbers d.readable d.chained in
           record {
             grown = reached path g d.numbers;
             few = d.few;
@@ -282,5 +282,5 @@ module _ (R : Request) (lent : Lends R) where
           }
 
       -- THEOREM: the conditions are just what the search goes by
-      pub meets-acceptable : (path : Path) → Meets R Yes Content anchor path ↔ (Acceptable (world_for R) (end_of R) Answered Content anchor path × Named R)
-      meets-acceptable path = (λ m. (acceptable path m.stands m.content, m.named), λ h. record { stands = stands path h.0; named = h.1; content = h.0.content })
+      pub meets_acceptable : (path : Path) → Meets R Yes Content anchor path ↔ (Acceptable (world_for R) (end_of R) Answered Content anchor path × Named R)
+      meets_acceptable path = (λ m. (acceptable path m.stands m.content, m.named), λ h. record { stands = stands path h.0; named = h.1; content = h.0.content })

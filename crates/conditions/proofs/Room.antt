@@ -21,8 +21,8 @@ use Rattle.candidate.specs.declared.Verdict.TheVariants.{Extend}
 use Rattle.candidate.proofs.Verdicts.{extend_sound}
 use Rattle.dialogue.specs.Model.{staged, Path}
 use Rattle.dialogue.specs.Log.{Turn, asked}
-use Rattle.dialogue.specs.Account.{UsedUp, signatures as no-signatures, extensions as no_extensions, comparisons as no-comparisons}
-use Rattle.dialogue.proofs.Room.{inquiries, extensions_wanted, comparisons-wanted, questions-wanted}
+use Rattle.dialogue.specs.Account.{UsedUp, signatures as no_signatures, extensions as no_extensions, comparisons as no_comparisons}
+use Rattle.dialogue.proofs.Room.{inquiries, extensions_wanted, comparisons_wanted, questions_wanted}
 use Rattle.machine.specs.World.{is_bound, names_of, world_of}
 use Rattle.conditions.specs.Request.{Request, Budgets, end_of}
 use Rattle.conditions.specs.Model.{world_for}
@@ -47,8 +47,8 @@ module _ (R : Request) (lent : Lends R) where
     contents : (n : ℕ) (c : Certificate) → read_certificate (bytes_of R n) true ≡ Accepted c → IsCertificate (bytes_of R n) (contents_of (bytes_of R n) c)
     contents n c e = reads_certificate (bytes_of R n) (bytes R lent n) (contents_of (bytes_of R n) c) (c, e, refl)
 
-    names-short : (n : ℕ) (c : Certificate) → read_certificate (bytes_of R n) true ≡ Accepted c → c.known.alternative_name.end - c.known.alternative_name.start ≤ names
-    names-short n c e =
+    names_short : (n : ℕ) (c : Certificate) → read_certificate (bytes_of R n) true ≡ Accepted c → c.known.alternative_name.end - c.known.alternative_name.start ≤ names
+    names_short n c e =
         let t = bytes_of R n in
         let i = (read_inside t (bytes R lent n) true c e).known.alternative_name.inside in
         omega (
@@ -58,10 +58,10 @@ module _ (R : Request) (lent : Lends R) where
           part_length t c.known.alternative_name.start c.known.alternative_name.end i,
         )
 
-    own-short : (n : ℕ) (c : Certificate) → read_certificate (bytes_of R n) true ≡ Accepted c → c.known.name_constraints.known ≡ true
+    own_short : (n : ℕ) (c : Certificate) → read_certificate (bytes_of R n) true ≡ Accepted c → c.known.name_constraints.known ≡ true
         → c.known.name_constraints.end - c.known.name_constraints.start ≤ lists
     unfolding content_in
-    own-short n c e h =
+    own_short n c e h =
         let t = bytes_of R n in
         let i = (read_inside t (bytes R lent n) true c e).known.name_constraints.inside in
         let q : content_in (contents_of t c).name_constraints ≡ part t c.known.name_constraints.start c.known.name_constraints.end = rw h in
@@ -69,7 +69,7 @@ module _ (R : Request) (lent : Lends R) where
 
     costs : (k : ℕ) (p : Path) → (world_for R).cost k p ≤ length p * suc (length p) / 2 * (suc (names / 2) * ((lists + 2) / 4))
     unfolding world_of names_of
-    costs k p = path_few (bytes_of R) names lists names-short own-short (get_or R.constraints k []) (sizes.anchors k) (is_bound R.constraints R.bound k) p
+    costs k p = path_few (bytes_of R) names lists names_short own_short (get_or R.constraints k []) (sizes.anchors k) (is_bound R.constraints R.bound k) p
 
   asks : (k : ℕ) (p : Path) → inquiries (staged (world_for R) k p) ≡ length p
   unfolding world_of staged inquiries
@@ -88,22 +88,22 @@ module _ (R : Request) (lent : Lends R) where
       by false h = refl
 
   pub too_small : (B : Budgets) (turns : List Turn) (x : ℕ) → UsedUp (world_for R) (end_of R) B.signatures B.extensions B.comparisons turns x → TooSmall R B turns x
-  too_small B turns x (no-signatures first last d m anchor path key what rest e r t c a) =
+  too_small B turns x (no_signatures first last d m anchor path key what rest e r t c a) =
       signatures e a
       (omega (
         arith,
         a,
         ap asked t,
-        questions-wanted (world_for R) (length R.subjects) (length R.issuers) (sorted R lent) fresh (end_of R) (λ d. d) first d m anchor path r
+        questions_wanted (world_for R) (length R.subjects) (length R.issuers) (sorted R lent) fresh (end_of R) (λ d. d) first d m anchor path r
             (λ k p l. omega (arith, asks k p)) last key what rest c,
       ))
   too_small B turns x (no_extensions m e r) = extensions e (extensions_wanted (world_for R) (length R.subjects) (length R.issuers) (sorted R lent) fresh (end_of R) turns B.extensions m r)
-  too_small B turns x (no-comparisons first last d m anchor path e r t c l f) =
+  too_small B turns x (no_comparisons first last d m anchor path e r t c l f) =
       comparisons e (λ names lists sizes.
       omega (
         arith,
         f,
-        comparisons-wanted (world_for R) (length R.subjects) (length R.issuers) (sorted R lent) fresh (end_of R)
+        comparisons_wanted (world_for R) (length R.subjects) (length R.issuers) (sorted R lent) fresh (end_of R)
             (λ d. d * suc d / 2 * (suc (names / 2) * ((lists + 2) / 4))) first d m anchor path r (λ k p l. costs names lists sizes k p),
       ))
 

@@ -37,7 +37,7 @@ module _ (content : List ℕ) (is : NameConstraints content [] []) where
   unfolding Issuers EachOf Each Some encoded content_in subtrees
   unrestricted o h =
       record {
-        anchor-met =
+        anchor_met =
             record {
               permitted = [];
               excluded = [];
@@ -45,7 +45,7 @@ module _ (content : List ℕ) (is : NameConstraints content [] []) where
               short = (lit< tt, lit< tt);
               rule = (record { alternative = []; is = rw h refl; named = tt; conform = tt; subject = record { comparable = (tt, tt); within = λ s. absurd s; without = tt } }, tt);
             };
-        issuers-met = tt;
+        issuers_met = tt;
       }
 
   unsized : Unsized content

@@ -18,7 +18,7 @@ use Rattle.extensions.proofs.Unique.{last_in}
 use Rattle.moment.specs.Calendar.{leap_year, days_of_year, month_lengths, days_of_month, days_of_years, days_of_months, days_to, seconds_to, utc, tag_of, two_digits, after_year, text, full_year, Writes, IsTime}
 use Rattle.subtrees.proofs.Once.{inner_once}
 use Rattle.lent.specs.Lent.{certificate_of}
-use Rattle.checks.specs.Conditions.{absent, present, Contents, InValidity, unbounded, written as said, none as no-limit}
+use Rattle.checks.specs.Conditions.{absent, present, Contents, InValidity, unbounded, written as said, none as no_limit}
 use Rattle.checks.specs.Skeletons.{value_in, IsCertificate}
 use Rattle.asked.specs.Questions.{of_anchor, from_certificate, Opens}
 use Rattle.conditions.specs.Request.{Request}
@@ -26,11 +26,11 @@ use Rattle.conditions.specs.Conditions.{Each, InPlace, Chain, Apart, Numbers, Re
 use Rattle.conditions.specs.Exactly.{Issuers, constraints_of}
 use Rattle.conditions.specs.Meets.{Stands}
 use Rattle.conditions.specs.Rfc5280Path.{Certificate, World, Inputs, MaySign, Onward, Validates}
-use Rattle.conditions.specs.Rfc5280Path.{Handled, not-critical, key_usage as as-usage, subject_alt_name as as-names, basic_constraints as as-basic, name_constraints as as-constraints, elsewhere}
+use Rattle.conditions.specs.Rfc5280Path.{Handled, not_critical, key_usage as as_usage, subject_alt_name as as_names, basic_constraints as as_basic, name_constraints as as_constraints, elsewhere}
 use Rattle.conditions.specs.Witnesses.{Weaker, AtOnce, ExplicitPolicy}
 use Rattle.der.specs.Places.{LIMIT}
 use Rattle.parts.specs.Lists.{same_list, Every}
-use Rattle.extensions.specs.Accepted.{occurs, Taken, usage, known, other, none as no-extension, more as one-extension, KnownNumber, key_usage, subject_alt_name, basic_constraints, name_constraints, c_rldistribution_points, ext_key_usage}
+use Rattle.extensions.specs.Accepted.{occurs, Taken, usage, known, other, none as no_extension, more as one_extension, KnownNumber, key_usage, subject_alt_name, basic_constraints, name_constraints, crl_distribution_points, ext_key_usage}
 use Rattle.dialogue.specs.Log.{What}
 
 -- ---- the certificates
@@ -135,7 +135,7 @@ end_is =
     record {
       k = end_entity;
       bytes = refl;
-      rules = record { short = lit< tt; each = no-extension; once = λ n k. lit≤ tt };
+      rules = record { short = lit< tt; each = no_extension; once = λ n k. lit≤ tt };
       describes = record { issuer = refl; validity = refl; subject = refl; key = refl; basic_constraints = refl; ext_key_usage = refl; subject_alt_name = refl; name_constraints = refl };
     }
 
@@ -213,7 +213,7 @@ module _ (x : Extension) (b : Beside x) where
   once n subject_alt_name = omega (arith, few (is_number 17 x))
   once n basic_constraints = rw b.no_basic (lit≤ tt)
   once n name_constraints = omega (arith, few (is_number 30 x))
-  once n c_rldistribution_points = omega (arith, few (is_number 31 x))
+  once n crl_distribution_points = omega (arith, few (is_number 31 x))
   once n ext_key_usage = omega (arith, few (is_number 37 x))
 
   issuer_is : IsCertificate (certificate (issuer_with x)) issuer_contents
@@ -222,7 +222,7 @@ module _ (x : Extension) (b : Beside x) where
       record {
         k = issuer_with x;
         bytes = refl;
-        rules = record { short = b.short; each = one-extension (known 19 basic_constraints (λ e. omega arith) refl (1 ∷ 1 ∷ 255 ∷ []) refl) (one-extension b.taken no-extension); once = once };
+        rules = record { short = b.short; each = one_extension (known 19 basic_constraints (λ e. omega arith) refl (1 ∷ 1 ∷ 255 ∷ []) refl) (one_extension b.taken no_extension); once = once };
         describes =
             record {
               issuer = refl;
@@ -259,13 +259,13 @@ module _ (x : Extension) (b : Beside x) where
         readable = (issuer_is, (end_is, tt));
         chained = (refl, (refl, tt));
         trusted = (λ k m e. Memᴰ.not-nil m, (λ k m e. Memᴰ.not-nil m, tt));
-        anchor-trusted = λ k m e. Memᴰ.not-nil m;
+        anchor_trusted = λ k m e. Memᴰ.not-nil m;
         valid = (valid, (valid, tt));
-        placed = ((unbounded, record { first = 1 ∷ 1 ∷ 255 ∷ []; second = []; whole = refl; says = said refl; limits = no-limit refl refl }, tt), (unbounded, (refl, refl)));
+        placed = ((unbounded, record { first = 1 ∷ 1 ∷ 255 ∷ []; second = []; whole = refl; says = said refl; limits = no_limit refl refl }, tt), (unbounded, (refl, refl)));
         purposed = (refl, (refl, tt));
         apart = ((λ s. absurd (let z : ◌≡◌ {A = ℕ} 73 69 = ap (λ (l : List ℕ). get_or l 11 0) s.0 in omega arith), tt), (tt, tt));
         signed = (anchor_opens, always _ _, (issuer_opens, always _ _, tt));
-        constrained = record { anchor-met = tt; issuers-met = (tt, tt) };
+        constrained = record { anchor_met = tt; issuers_met = (tt, tt) };
       }
 
   -- ---- a list of certificates with its bytes is these two
@@ -334,14 +334,14 @@ may_not (unused, octets, is, string, one) =
 
 pub d31 : Weaker (request_with no_signer) path (λ W. Unit {0})
 unfolding Onward listed value_in is_number same_list
-d31 = weaker no_signer no_signer_beside (λ W. Unit {0}) tt (λ W u I c d p q v. may_not (rw p at v.steps.1.1.may-sign))
+d31 = weaker no_signer no_signer_beside (λ W. Unit {0}) tt (λ W u I c d p q v. may_not (rw p at v.steps.1.1.may_sign))
 
 -- ---- D10: an issuer with critical distribution points, in a world in which nothing processes them: 6.1.4 (o)
 points_beside : Beside points
 unfolding sequence encoding length_bytes is_number same_list
 points_beside =
     record {
-      taken = known 31 c_rldistribution_points (λ e. omega arith) refl (48 ∷ 17 ∷ 160 ∷ 15 ∷ 160 ∷ 13 ∷ 134 ∷ 11 ∷ 104 ∷ 116 ∷ 116 ∷ 112 ∷ 58 ∷ 47 ∷ 47 ∷ 97 ∷ 46 ∷ 98 ∷ 47 ∷ []) refl;
+      taken = known 31 crl_distribution_points (λ e. omega arith) refl (48 ∷ 17 ∷ 160 ∷ 15 ∷ 160 ∷ 13 ∷ 134 ∷ 11 ∷ 104 ∷ 116 ∷ 116 ∷ 112 ∷ 58 ∷ 47 ∷ 47 ∷ 97 ∷ 46 ∷ 98 ∷ 47 ∷ []) refl;
       short = shorts.2;
       no_names = refl;
       no_basic = refl;
@@ -351,11 +351,11 @@ points_beside =
 
 unhandled : (W : World) → (W.Processed points → ⊥) → Handled W points → ⊥
 unfolding is_critical is_number same_list
-unhandled W n (not-critical e) = let z : ◌≡◌ {A = ℕ} 0 1 = cc in omega arith
-unhandled W n (as-usage e) = let z : ◌≡◌ {A = ℕ} 0 1 = cc in omega arith
-unhandled W n (as-names e) = let z : ◌≡◌ {A = ℕ} 0 1 = cc in omega arith
-unhandled W n (as-basic e) = let z : ◌≡◌ {A = ℕ} 0 1 = cc in omega arith
-unhandled W n (as-constraints e) = let z : ◌≡◌ {A = ℕ} 0 1 = cc in omega arith
+unhandled W n (not_critical e) = let z : ◌≡◌ {A = ℕ} 0 1 = cc in omega arith
+unhandled W n (as_usage e) = let z : ◌≡◌ {A = ℕ} 0 1 = cc in omega arith
+unhandled W n (as_names e) = let z : ◌≡◌ {A = ℕ} 0 1 = cc in omega arith
+unhandled W n (as_basic e) = let z : ◌≡◌ {A = ℕ} 0 1 = cc in omega arith
+unhandled W n (as_constraints e) = let z : ◌≡◌ {A = ℕ} 0 1 = cc in omega arith
 unhandled W n (elsewhere p) = n p
 
 pub d10 : Weaker (request_with points) path (λ W. W.Processed points → ⊥)
@@ -369,7 +369,7 @@ unknown n key_usage = refl
 unknown n subject_alt_name = refl
 unknown n basic_constraints = refl
 unknown n name_constraints = refl
-unknown n c_rldistribution_points = refl
+unknown n crl_distribution_points = refl
 unknown n ext_key_usage = refl
 
 policy_beside : Beside policy
@@ -407,4 +407,4 @@ pub d46 : Weaker (request_with signer) path (λ W. (c : Certificate) → c.bytes
 unfolding Onward
 d46 =
     weaker signer signer_beside (λ W. (c : Certificate) → c.bytes ≡ certificate end_entity → W.NotRevoked c → ⊥) (λ c e p. p)
-    (λ W k I c d p q v. k d q v.steps.1.2.0.not-revoked)
+    (λ W k I c d p q v. k d q v.steps.1.2.0.not_revoked)

@@ -19,7 +19,7 @@ module _ (R : Request) (B : Budgets) (turns : List Turn) where
     -- the end entity cannot be read: why, before anything is asked
     unread : read_certificate R.end true ≡ Unreadable x → turns ≡ [] → Which x
     -- there is no path: of all that was noted, in the order of the search, the first of the highest rank
-    no-path : Exhausted (world_for R) (end_of R) turns x → Which x
+    no_path : Exhausted (world_for R) (end_of R) turns x → Which x
     -- there is one, and the end entity is not good for the wanted name: why
     other_name : (anchor : ℕ) (path : Path) → Leads (search_of R B) turns (accepted anchor path) → name_of R.end R.kind R.name ≡ x → (Named R → ⊥) → Which x
 

@@ -12,7 +12,7 @@ use Rattle.conditions.specs.Conditions.{content_in, Each as EachOf}
 
 -- ---- whose constraints are over whom, for any rule on one certificate and the lists of permitted and excluded entries
 module _ (Rule : List General → List General → Contents → Type 0) where
-  -- name constraints of this content, and the certificates that they apply to; self-issued ones are no exception (stricter, D26)
+  -- name constraints of this content, and the certificates that they apply to; self_issued ones are no exception (stricter, D26)
   pub record Met (content : List ℕ) (below : List Contents) : Type 0 where
     pub permitted : List General
     pub excluded : List General
@@ -35,8 +35,8 @@ module _ (Rule : List General → List General → Contents → Type 0) where
 
   -- the anchor's, if it has any, and each issuer's
   pub record Over (anchor : Optional) (path : List Contents) : Type 0 where
-    pub anchor-met : Own anchor path
-    pub issuers-met : Issuers path
+    pub anchor_met : Own anchor path
+    pub issuers_met : Issuers path
 
 -- ---- one certificate
 -- 4.1.2.6: the subject, as a directory name is written among alternative names

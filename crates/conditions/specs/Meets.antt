@@ -26,7 +26,7 @@ module _ (R : Request) where
     pub chained : Chain (get_or R.subjects anchor []) contents
     -- 1. none has a distrusted key, nor has the anchor (stricter, D57)
     pub trusted : Each (λ o. Trusted R.distrusted o.key) contents
-    pub anchor-trusted : Trusted R.distrusted (get_or R.keys anchor [])
+    pub anchor_trusted : Trusted R.distrusted (get_or R.keys anchor [])
     -- 2. the time lies in the validity of each
     pub valid : Each (λ o. InValidity o.validity R.time) contents
     -- 3. the end entity is no CA; every other one is, with a path length that allows the intermediates below it

@@ -96,7 +96,7 @@ MaySign absent = Unit {0}
 MaySign (present v) = (unused : ℕ) × (octets : List ℕ) × (v ≡ encoding 3 (unused ∷ octets)) × BitString unused octets × (bit octets 5 ≡ 1)
 
 module _ (W : World) where
-  -- 6.1: self-issued: subject and issuer are the same
+  -- 6.1: self_issued: subject and issuer are the same
   abbrev pub SelfIssued : Certificate → Type 0
   SelfIssued c = W.SameName c.contents.subject c.contents.issuer
 
@@ -119,21 +119,21 @@ module _ (W : World) where
     -- (a) (1) to (4); of dates, those before 1970 are left out
     pub signature : W.Verifies s.working_public_key c.bytes
     pub validity : InValidity c.contents.validity time
-    pub not-revoked : W.NotRevoked c
+    pub not_revoked : W.NotRevoked c
     pub issuer : W.SameName s.working_issuer_name c.contents.issuer
-    -- (b), (c): skipped for a certificate that is self-issued and not the final one; and, since they need not be general names then, where nothing restricts
+    -- (b), (c): skipped for a certificate that is self_issued and not the final one; and, since they need not be general names then, where nothing restricts
     -- any name
     pub names : (final ≡ false → SelfIssued c → ⊥) → (s.permitted_subtrees ≡ [] → s.excluded_subtrees ≡ [] → ⊥) → NamesWithin s c.contents
 
   -- ---- 6.1.4: preparation for the next certificate
   -- (l)
   pub data Counted (c : Certificate) (m left : ℕ) : Type 0 where
-    self-issued : SelfIssued c → left ≡ m → Counted c m left
+    self_issued : SelfIssued c → left ≡ m → Counted c m left
     counted : (SelfIssued c → ⊥) → m ≡ suc left → Counted c m left
 
   -- (o), and 6.1.5 (f): every critical extension is one of those that are processed here, or is processed elsewhere
   pub data Handled (x : Extension) : Type 0 where
-    not-critical : is_critical x.critical ≡ false → Handled x
+    not_critical : is_critical x.critical ≡ false → Handled x
     key_usage : is_number 15 x ≡ true → Handled x
     subject_alt_name : is_number 17 x ≡ true → Handled x
     basic_constraints : is_number 19 x ≡ true → Handled x
@@ -154,7 +154,7 @@ module _ (W : World) where
     pub counted : Counted c s.max_path_length left
     pub lowered : Lowered bound left next.max_path_length
     -- (n), (o)
-    pub may-sign : MaySign (value_in 15 (listed c.skeleton.extensions))
+    pub may_sign : MaySign (value_in 15 (listed c.skeleton.extensions))
     pub handled : Every Handled (listed c.skeleton.extensions)
 
   -- ---- 6.1.3 to 6.1.5 for certificates i to n; 6.1.5 (c) to (e) give the key to the caller

@@ -44,10 +44,10 @@ module _ (W : World) where
   pub record Unexceptional (anchor : Optional) (path : List Certificate) : Type 0 where
     pub purposes : (x : Extension) → is_number 37 x ≡ true → W.Processed x
     pub mail : MailException anchor path → ⊥
-    pub key-usage : KeyUsageKept path
+    pub key_usage : KeyUsageKept path
     pub points : Every PointsProcessed path
     -- D46: revocation is not looked at; D36: nor are policies. These two are assumed as a whole
-    pub not-revoked : Every W.NotRevoked path
+    pub not_revoked : Every W.NotRevoked path
     pub policies : W.Policies path
 
 -- ---- the inputs of 6.1.1 that a request and an anchor are; the anchor's constraints are initial subtrees, as RFC 5937, 3.2, has it

@@ -68,12 +68,12 @@ module _ (s : List ℕ) (bytes : Bytes s) (lists : Subtrees) where
   record ListsAre : Type 0 where
     permitted_is : part s lists.permitted.start lists.permitted.end ≡ subtrees permitted
     excluded_is : part s lists.excluded.start lists.excluded.end ≡ subtrees excluded
-    permitted-named : Each Named permitted
-    excluded-named : Each Named excluded
+    permitted_named : Each Named permitted
+    excluded_named : Each Named excluded
 
   -- ---- one name
   record NamePassed (taken : ℕ) : Type 0 where
-    lists-are : ListsAre
+    lists_are : ListsAre
     count : taken ≡ entry_count
 
   name_passes : (kind : ℕ) (p : List ℕ) → (name s lists kind p).refusal ≡ 0 → NamePassed (name s lists kind p).taken
@@ -83,70 +83,70 @@ module _ (s : List ℕ) (bytes : Bytes s) (lists : Subtrees) where
       let l = entries_pass s bytes lists.permitted.end false kind p lists.permitted.start b.first in
       let r = entries_pass s bytes lists.excluded.end true kind p lists.excluded.start b.second in
       record {
-        lists-are = record { permitted_is = l.is; excluded_is = r.is; permitted-named = l.named; excluded-named = r.named };
+        lists_are = record { permitted_is = l.is; excluded_is = r.is; permitted_named = l.named; excluded_named = r.named };
         count = b.taken ∙ omega (arith, l.count, r.count);
       }
 
   -- ---- the names of one certificate
   record NamesPassed (t : List ℕ) (at to : ℕ) (ns : List General) (taken : ℕ) : Type 0 where
     is : part t at to ≡ encoded ns
-    names-named : Each Named ns
+    names_named : Each Named ns
     count : taken ≡ length ns * entry_count
 
   module _ (t : List ℕ) (bt : Bytes t) (to : ℕ) where
-    abbrev named-from : ℕ → ℕ → Tally
-    named-from fuel at = run to (λ a (u : Unit {0}). clean) (λ a u. next_name s lists t (general_name t a to)) fuel at tt
+    abbrev named_from : ℕ → ℕ → Tally
+    named_from fuel at = run to (λ a (u : Unit {0}). clean) (λ a u. next_name s lists t (general_name t a to)) fuel at tt
 
-    names-end : (at : ℕ) → to ≤ at → NamesPassed t at to [] 0
+    names_end : (at : ℕ) → to ≤ at → NamesPassed t at to [] 0
     unfolding encoded Each
-    names-end at h = record { is = part_empty t at to h; names-named = tt; count = omega arith }
+    names_end at h = record { is = part_empty t at to h; names_named = tt; count = omega arith }
 
-    name-more : (at kind start end : ℕ) (ns : List General) (a b : ℕ) → Named (record { kind = kind; content = part t start end }) → part t at to ≡ encoding kind (part t start end) ++ part t end to → NamePassed a → NamesPassed t end to ns b
+    name_more : (at kind start end : ℕ) (ns : List General) (a b : ℕ) → Named (record { kind = kind; content = part t start end }) → part t at to ≡ encoding kind (part t start end) ++ part t end to → NamePassed a → NamesPassed t end to ns b
         → NamesPassed t at to (record { kind = kind; content = part t start end } ∷ ns) (a + b)
     unfolding encoded Each
-    name-more at kind start end ns a b h q n r =
+    name_more at kind start end ns a b h q n r =
         let n₁ : General = record { kind = kind; content = part t start end } in
         let one : a ≡ length (n₁ ∷ []) * entry_count = omega (arith, n.count) in
         record {
           is = q ∙ ap (λ (u : List ℕ). encoding kind (part t start end) ++ u) r.is;
-          names-named = (h, r.names-named);
+          names_named = (h, r.names_named);
           count = more_names (n₁ ∷ []) ns entry_count a b one r.count;
         }
 
-    name-step : (fuel at : ℕ) (g : Name) → general_name t at to ≡ g → to - at ≤ suc fuel → (next_name s lists t g (λ a (u : Unit {0}). named-from fuel a)).refusal ≡ 0
-        → ((at' : ℕ) → to - at' ≤ fuel → (named-from fuel at').refusal ≡ 0 → NamesPassed t at' to (generals fuel t at' to) (named-from fuel at').taken)
-        → NamesPassed t at to (on_name g (λ e. []) (λ kind a b. record { kind = kind; content = part t a b } ∷ generals fuel t b to)) (next_name s lists t g (λ a (u : Unit {0}). named-from fuel a)).taken
+    name_step : (fuel at : ℕ) (g : Name) → general_name t at to ≡ g → to - at ≤ suc fuel → (next_name s lists t g (λ a (u : Unit {0}). named_from fuel a)).refusal ≡ 0
+        → ((at' : ℕ) → to - at' ≤ fuel → (named_from fuel at').refusal ≡ 0 → NamesPassed t at' to (generals fuel t at' to) (named_from fuel at').taken)
+        → NamesPassed t at to (on_name g (λ e. []) (λ kind a b. record { kind = kind; content = part t a b } ∷ generals fuel t b to)) (next_name s lists t g (λ a (u : Unit {0}). named_from fuel a)).taken
     unfolding next_name on_name
-    name-step fuel at (Found kind start end) e h z rec =
+    name_step fuel at (Found kind start end) e h z rec =
         let b = both_pass _ _ z in
         let here = named_at t bt at to kind start end e in
         let one = name_passes kind (part t start end) b.first in
-        rw b.taken (name-more at kind start end (generals fuel t end to) _ _ here.0 here.1.0 one (rec end (omega (arith, here.1.1.0)) b.second))
-    name-step fuel at (NoName x) e h z rec =
+        rw b.taken (name_more at kind start end (generals fuel t end to) _ _ here.0 here.1.0 one (rec end (omega (arith, here.1.1.0)) b.second))
+    name_step fuel at (NoName x) e h z rec =
         let n : Called (NoName x) = rw e at (name_called t at to) in
         absurd (n z)
 
-    names-pass : (fuel at : ℕ) → to - at ≤ fuel → (named-from fuel at).refusal ≡ 0 → NamesPassed t at to (generals fuel t at to) (named-from fuel at).taken
+    names_pass : (fuel at : ℕ) → to - at ≤ fuel → (named_from fuel at).refusal ≡ 0 → NamesPassed t at to (generals fuel t at to) (named_from fuel at).taken
     unfolding run generals
-    names-pass zero at h z = names-end at (omega arith)
-    names-pass (suc fuel) at h z = by_test (ltb at to) refl z (names-pass fuel)
+    names_pass zero at h z = names_end at (omega arith)
+    names_pass (suc fuel) at h z = by_test (ltb at to) refl z (names_pass fuel)
       where
         by_test : (b : Bool) → ltb at to ≡ b
-            → (cond b (next_name s lists t (general_name t at to) (λ a (u : Unit {0}). named-from fuel a)) clean).refusal ≡ 0
-            → ((at' : ℕ) → to - at' ≤ fuel → (named-from fuel at').refusal ≡ 0 → NamesPassed t at' to (generals fuel t at' to) (named-from fuel at').taken)
+            → (cond b (next_name s lists t (general_name t at to) (λ a (u : Unit {0}). named_from fuel a)) clean).refusal ≡ 0
+            → ((at' : ℕ) → to - at' ≤ fuel → (named_from fuel at').refusal ≡ 0 → NamesPassed t at' to (generals fuel t at' to) (named_from fuel at').taken)
             → NamesPassed t at to (cond b (on_name (general_name t at to) (λ e. []) (λ kind a b. record { kind = kind; content = part t a b } ∷ generals fuel t b to)) [])
-            (cond b (next_name s lists t (general_name t at to) (λ a (u : Unit {0}). named-from fuel a)) clean).taken
-        by_test true e y rec = name-step fuel at (general_name t at to) refl h y rec
-        by_test false e y rec = names-end at (ltb-false _ _ e)
+            (cond b (next_name s lists t (general_name t at to) (λ a (u : Unit {0}). named_from fuel a)) clean).taken
+        by_test true e y rec = name_step fuel at (general_name t at to) refl h y rec
+        by_test false e y rec = names_end at (ltb-false _ _ e)
 
-    alternatives-pass : (from : ℕ) → (alternatives s lists t from to).refusal ≡ 0 → NamesPassed t from to (generals (to - from) t from to) (alternatives s lists t from to).taken
+    alternatives_pass : (from : ℕ) → (alternatives s lists t from to).refusal ≡ 0 → NamesPassed t from to (generals (to - from) t from to) (alternatives s lists t from to).taken
     unfolding alternatives walk
-    alternatives-pass from z = names-pass (to - from) from (omega arith) z
+    alternatives_pass from z = names_pass (to - from) from (omega arith) z
 
   -- ---- one certificate
   record CertPassed (t : List ℕ) (taken : ℕ) : Type 0 where
     names : List General
-    lists-are : ListsAre
+    lists_are : ListsAre
     presents : Presents t names
     count : taken ≡ length names * entry_count
 
@@ -159,14 +159,14 @@ module _ (s : List ℕ) (bytes : Bytes s) (lists : Subtrees) where
       let to = c.known.alternative_name.end in
       let subject : General = record { kind = directory_name; content = part t c.subject.start c.subject.end } in
       let b = both_pass _ _ z in
-      let l = alternatives-pass t bt to from b.first in
+      let l = alternatives_pass t bt to from b.first in
       let n = name_passes directory_name (part t c.subject.start c.subject.end) b.second in
       let ns = generals (to - from) t from to in
       let one : (name s lists directory_name (part t c.subject.start c.subject.end)).taken ≡ length (subject ∷ []) * entry_count = omega (arith, n.count) in
       record {
         names = ns ++ (subject ∷ []);
-        lists-are = n.lists-are;
-        presents = record { c = c; read = e; alternative = ns; is = l.is; named = l.names-named; all = refl };
+        lists_are = n.lists_are;
+        presents = record { c = c; read = e; alternative = ns; is = l.is; named = l.names_named; all = refl };
         count = b.taken ∙ more_names ns (subject ∷ []) entry_count _ _ l.count one;
       }
 
@@ -202,7 +202,7 @@ module _ (s : List ℕ) (bytes : Bytes s) (lists : Subtrees) where
 
   head_lists : (c : List ℕ) (cs : List (List ℕ)) → EachBytes (c ∷ cs) → (below s lists (c ∷ cs)).refusal ≡ 0 → ListsAre
   unfolding below_in EachBytes
-  head_lists c cs bs z = (certificate_passes c bs.0 (both_pass _ _ z).first).lists-are
+  head_lists c cs bs z = (certificate_passes c bs.0 (both_pass _ _ z).first).lists_are
 
 -- ---- one issuer's constraints
 module _ (s : List ℕ) (bytes : Bytes s) (from to : ℕ) (c : List ℕ) (cs : List (List ℕ)) (bs : EachBytes (c ∷ cs)) where
@@ -223,7 +223,7 @@ module _ (s : List ℕ) (bytes : Bytes s) (from to : ℕ) (c : List ℕ) (cs : L
               is = part_split s from lists.permitted.end to l.first.later w;
               permitted_is = (l.first.field a.permitted_is).0;
               excluded_is = rw (← h) (l.second.field a.excluded_is).0;
-              named = (a.permitted-named, a.excluded-named);
+              named = (a.permitted_named, a.excluded_named);
             };
         presented = b.presented;
         cost = b.count;

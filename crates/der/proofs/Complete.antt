@@ -13,7 +13,7 @@ use Rattle.der.specs.declared.Read.TheVariants.{Value}
 use Rattle.der.specs.Model.{high_tag, number_at, least, long_form, by_first, read_length, read_limited}
 use Rattle.der.specs.X690.{big_endian, octets_of, length_bytes, encoding}
 use Rattle.der.specs.Places.{part}
-use Rattle.der.proofs.Laws.{tests, limited-value, lt_or_le}
+use Rattle.der.proofs.Laws.{tests, limited_value, lt_or_le}
 use Rattle.der.proofs.Parts.{append_inv, part_length, part_split, part_more, part_cons}
 
 -- a last element
@@ -118,4 +118,4 @@ value_complete s from to limit tag content low short small l r e =
     let g : part s (from + 1) (from + 1 + k + n) ≡ length_bytes n ++ content = cc in
     let a : part s (from + 1) (from + 1 + k) ++ part s (from + 1 + k) (from + 1 + k + n) ≡ length_bytes n ++ content = sym (part_split s (from + 1) (from + 1 + k) (from + 1 + k + n) (omega arith) (omega arith)) ∙ g in
     let q = append_inv (part s (from + 1) (from + 1 + k)) (length_bytes n) (part s (from + 1 + k) (from + 1 + k + n)) content (part_length s (from + 1) (from + 1 + k) (omega arith) ∙ omega arith) a in
-    rw end (limited-value s from to limit n (from + 1 + k) l (omega arith) (rw t low) (length_complete s (from + 1) to n small l (omega arith) q.0) short (omega arith) ∙ rw t)
+    rw end (limited_value s from to limit n (from + 1 + k) l (omega arith) (rw t low) (length_complete s (from + 1) to n small l (omega arith) q.0) short (omega arith) ∙ rw t)

@@ -107,17 +107,17 @@ one_shifted k h = let p = power_below k h in omega arith
 -- ---- the one way to an accepted value, and the ways to a refusal once a length was looked for
 module _ (s : List ℕ) (from to limit : ℕ) where
   module _ (len next : ℕ) (a : to ≤ length s) (b : from < to) (h : high_tag (get_or s from 0) ≡ false) (l : read_length s (from + 1) to ≡ Is len next) where
-    pub limited-value : len < limit → len ≤ to - next → read_limited s from to limit ≡ Value (get_or s from 0) next (next + len)
+    pub limited_value : len < limit → len ≤ to - next → read_limited s from to limit ≡ Value (get_or s from 0) next (next + len)
     unfolding read_limited with_length
-    limited-value c d = search (tests, h, l)
+    limited_value c d = search (tests, h, l)
 
-    pub limited-long : limit ≤ len → read_limited s from to limit ≡ Refused
+    pub limited_long : limit ≤ len → read_limited s from to limit ≡ Refused
     unfolding read_limited with_length
-    limited-long c = search (tests, h, l)
+    limited_long c = search (tests, h, l)
 
-    pub limited-past : len < limit → to - next < len → read_limited s from to limit ≡ Refused
+    pub limited_past : len < limit → to - next < len → read_limited s from to limit ≡ Refused
     unfolding read_limited with_length
-    limited-past c d = search (tests, h, l)
+    limited_past c d = search (tests, h, l)
 
   pub limited_bad : to ≤ length s → from < to → high_tag (get_or s from 0) ≡ false → read_length s (from + 1) to ≡ Bad → read_limited s from to limit ≡ Refused
   unfolding read_limited with_length

@@ -8,7 +8,7 @@ use Rattle.refusal.specs.Refusals.{is_fatal, unknown_issuer, maximum_signature_c
 use Rattle.dialogue.specs.Model.{World, Event, Outcome, spent, events, search}
 use Rattle.dialogue.specs.Log.{Turn, asked}
 use Rattle.dialogue.specs.Dialogue.{Leads}
-use Rattle.dialogue.specs.Account.{kept, Last, no-events, content, no-signatures, no_extensions, no-comparisons, Account, own_cost, Reached, UsedUp, signatures, extensions, comparisons}
+use Rattle.dialogue.specs.Account.{kept, Last, no_events, content, no_signatures, no_extensions, no_comparisons, Account, own_cost, Reached, UsedUp, signatures, extensions, comparisons}
 use Rattle.dialogue.proofs.Runs.{asked_append, account}
 
 module _ (W : World) (end s b n : ℕ) (turns : List Turn) (r : Outcome) (h : Leads (search W end s b n) turns r) where
@@ -20,12 +20,12 @@ module _ (W : World) (end s b n : ℕ) (turns : List Turn) (r : Outcome) (h : Le
   unfolding asked
   few_questions = let a = accounted in rw a.talk (by a a.end)
     where
-      by : (a : Account W (events W end) s b n unknown_issuer turns r) → Last W a.after a.signatures-left a.extensions-left a.comparisons-left (kept unknown_issuer a.noted) a.last r → asked (a.first ++ a.last) ≤ s
-      by a (no-events p q e) = rw q (omega (arith, asked_append a.first []))
+      by : (a : Account W (events W end) s b n unknown_issuer turns r) → Last W a.after a.signatures_left a.extensions_left a.comparisons_left (kept unknown_issuer a.noted) a.last r → asked (a.first ++ a.last) ≤ s
+      by a (no_events p q e) = rw q (omega (arith, asked_append a.first []))
       by a (content k p later first e c y q f g i) = omega (arith, asked_append a.first a.last)
-      by a (no-signatures k p later key what rest e c q i) = omega (arith, asked_append a.first a.last)
+      by a (no_signatures k p later key what rest e c q i) = omega (arith, asked_append a.first a.last)
       by a (no_extensions later e q f i) = rw q (omega (arith, asked_append a.first []))
-      by a (no-comparisons k p later e c q f i) = omega (arith, asked_append a.first a.last)
+      by a (no_comparisons k p later e c q f i) = omega (arith, asked_append a.first a.last)
 
   pub few_extensions : accounted.extensions ≤ b
   few_extensions = let a = accounted in omega arith
@@ -35,12 +35,12 @@ module _ (W : World) (end s b n : ℕ) (turns : List Turn) (r : Outcome) (h : Le
   unfolding own_cost
   few_comparisons = by accounted accounted.end
     where
-      by : (a : Account W (events W end) s b n unknown_issuer turns r) → Last W a.after a.signatures-left a.extensions-left a.comparisons-left (kept unknown_issuer a.noted) a.last r → a.comparisons + own_cost W r ≤ n
-      by a (no-events p q e) = rw e (omega arith)
+      by : (a : Account W (events W end) s b n unknown_issuer turns r) → Last W a.after a.signatures_left a.extensions_left a.comparisons_left (kept unknown_issuer a.noted) a.last r → a.comparisons + own_cost W r ≤ n
+      by a (no_events p q e) = rw e (omega arith)
       by a (content k p later first e c y q f g i) = rw i (omega arith)
-      by a (no-signatures k p later key what rest e c q i) = rw i (omega arith)
+      by a (no_signatures k p later key what rest e c q i) = rw i (omega arith)
       by a (no_extensions later e q f i) = rw i (omega arith)
-      by a (no-comparisons k p later e c q f i) = rw i (omega arith)
+      by a (no_comparisons k p later e c q f i) = rw i (omega arith)
 
 module _ (W : World) (end s b n : ℕ) (turns : List Turn) (x : ℕ) (h : Leads (search W end s b n) turns (spent x)) where
   reached : {at : Event} (a : Account W (events W end) s b n unknown_issuer turns (spent x)) (later : List Event) → a.after ≡ at ∷ later → Reached W end at a.first a.extensions a.comparisons
@@ -50,17 +50,17 @@ module _ (W : World) (end s b n : ℕ) (turns : List Turn) (x : ℕ) (h : Leads 
   unfolding asked
   used_up = let a = accounted W end s b n turns (spent x) h in by a a.end
     where
-      by : (a : Account W (events W end) s b n unknown_issuer turns (spent x)) → Last W a.after a.signatures-left a.extensions-left a.comparisons-left (kept unknown_issuer a.noted) a.last (spent x) → UsedUp W end s b n turns x
-      by a (no-events p q e) = let z : ◌≡◌ {A = ℕ} 0 1 = cc in absurd (omega arith)
+      by : (a : Account W (events W end) s b n unknown_issuer turns (spent x)) → Last W a.after a.signatures_left a.extensions_left a.comparisons_left (kept unknown_issuer a.noted) a.last (spent x) → UsedUp W end s b n turns x
+      by a (no_events p q e) = let z : ◌≡◌ {A = ℕ} 0 1 = cc in absurd (omega arith)
       by a (content k p later first e c y q f g i) = let z : ◌≡◌ {A = ℕ} 0 1 = cc in absurd (omega arith)
-      by a (no-signatures k p later key what rest e c q i) =
+      by a (no_signatures k p later key what rest e c q i) =
           signatures a.first a.last a.extensions a.comparisons k p key what rest (cc) (reached a later e) a.talk c
           (ap asked a.talk ∙ omega (arith, asked_append a.first a.last))
       by a (no_extensions later e q f i) =
           let t : turns ≡ a.first = a.talk ∙ ap (λ (l : List Turn). a.first ++ l) q ∙ append-nil a.first in
           let all : b ≡ a.extensions = omega arith in
           extensions a.comparisons (cc) (rw (t, all) (reached a later e))
-      by a (no-comparisons k p later e c q f i) =
+      by a (no_comparisons k p later e c q f i) =
           comparisons a.first a.last a.extensions a.comparisons k p (cc) (reached a later e) a.talk c (omega arith) (omega arith)
 
   -- one of the three

@@ -13,7 +13,7 @@ use Rattle.candidate.specs.declared.Verdict.TheVariants.{Anchor}
 use Rattle.dialogue.specs.Model.{staged, Path, Stage, World, Event, try, refused, events, search}
 use Rattle.dialogue.specs.Log.{What, Turn, answer, word, NotDeclined}
 use Rattle.dialogue.specs.Dialogue.{Leads}
-use Rattle.dialogue.specs.Account.{kept, First, Cleared, here, by_check, by_answer, Declined, at-check, at-answer, at_names, at_offer, Past, noted, extended, left, declined, Gone, nothing, more, Last, no-events, content, no-signatures, no_extensions, no-comparisons, Account, Exhausted}
+use Rattle.dialogue.specs.Account.{kept, First, Cleared, here, by_check, by_answer, Declined, at_check, at_answer, at_names, at_offer, Past, noted, extended, left, declined, Gone, nothing, more, Last, no_events, content, no_signatures, no_extensions, no_comparisons, Account, Exhausted}
 use Rattle.dialogue.specs.Acceptable.{InOrder, Grown, Acceptable, Unopposed}
 use Rattle.dialogue.proofs.Runs.{account}
 use Rattle.dialogue.proofs.Events.{grown_tried}
@@ -55,8 +55,8 @@ module _ (W : World) where
   not_against turns k p y w z r = by r.declined
     where
       by : Declined W k p r.some r.refusal r.comparisons → ⊥
-      by (at-check e rest c q s) = let f = still (Unopposed W turns) c y in omega (arith, f.0)
-      by (at-answer e key what a rest first c l q s i) =
+      by (at_check e rest c q s) = let f = still (Unopposed W turns) c y in omega (arith, f.0)
+      by (at_answer e key what a rest first c l q s i) =
           let f = still (Unopposed W turns) c y in
           let n = f.0 a (r.within (answer key what a) (rw q (Memᴰ.append_right first (Memᴰ.head refl)))) in
           omega (arith, n, l)
@@ -66,23 +66,23 @@ module _ (W : World) where
           omega (arith, n)
 
   module _ (end s b n : ℕ) (turns : List Turn) (x : ℕ) (h : Leads (search W end s b n) turns (refused x)) where
-    pub all-gone : Exhausted W end turns x
+    pub all_gone : Exhausted W end turns x
     unfolding search
-    all-gone = let a = account W (events W end) s b n unknown_issuer turns (refused x) h in by a a.end
+    all_gone = let a = account W (events W end) s b n unknown_issuer turns (refused x) h in by a a.end
       where
-        by : (a : Account W (events W end) s b n unknown_issuer turns (refused x)) → Last W a.after a.signatures-left a.extensions-left a.comparisons-left (kept unknown_issuer a.noted) a.last (refused x) → Exhausted W end turns x
-        by a (no-events p q r) =
+        by : (a : Account W (events W end) s b n unknown_issuer turns (refused x)) → Last W a.after a.signatures_left a.extensions_left a.comparisons_left (kept unknown_issuer a.noted) a.last (refused x) → Exhausted W end turns x
+        by a (no_events p q r) =
             let es : events W end ≡ a.before = a.split ∙ ap (λ (l : List Event). a.before ++ l) p ∙ append-nil a.before in
             let ts : turns ≡ a.first = a.talk ∙ ap (λ (l : List Turn). a.first ++ l) q ∙ append-nil a.first in
             record { noted = a.noted; extensions = a.extensions; comparisons = a.comparisons; gone = rw (es, ts) a.gone; first = subst (λ (z : ℕ). First (unknown_issuer ∷ a.noted) z) (cc) (kept_first unknown_issuer a.noted) }
         by a (content k p later first e c y q f g r) = let z : ◌≡◌ {A = ℕ} 0 1 = cc in absurd (omega arith)
-        by a (no-signatures k p later key what rest e c q r) = let z : ◌≡◌ {A = ℕ} 0 1 = cc in absurd (omega arith)
+        by a (no_signatures k p later key what rest e c q r) = let z : ◌≡◌ {A = ℕ} 0 1 = cc in absurd (omega arith)
         by a (no_extensions later e p q r) = let z : ◌≡◌ {A = ℕ} 0 1 = cc in absurd (omega arith)
-        by a (no-comparisons k p later e c q f r) = let z : ◌≡◌ {A = ℕ} 0 1 = cc in absurd (omega arith)
+        by a (no_comparisons k p later e c q f r) = let z : ◌≡◌ {A = ℕ} 0 1 = cc in absurd (omega arith)
 
     -- something was against every path that could be tried
-    every-path : (anchor : ℕ) (path : Path) → Grown W end path → length path ≤ suc most_intermediates → anchor < W.candidates → W.verdict path anchor ≡ Anchor → Against turns anchor path
-    every-path anchor path g f l e = gone_against all-gone.gone anchor path (grown_tried W end g f anchor l e)
+    every_path : (anchor : ℕ) (path : Path) → Grown W end path → length path ≤ suc most_intermediates → anchor < W.candidates → W.verdict path anchor ≡ Anchor → Against turns anchor path
+    every_path anchor path g f l e = gone_against all_gone.gone anchor path (grown_tried W end g f anchor l e)
 
     pub complete : (anchor : ℕ) (path : Path) → Acceptable W end (Unopposed W turns) (NotDeclined turns) anchor path → ⊥
-    complete anchor path a = not_against turns anchor path a.signed a.named a.content (every-path anchor path a.grown a.few a.candidate a.anchored)
+    complete anchor path a = not_against turns anchor path a.signed a.named a.content (every_path anchor path a.grown a.few a.candidate a.anchored)

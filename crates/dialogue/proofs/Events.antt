@@ -116,7 +116,7 @@ module _ (W : World) (end : ℕ) where
   unfolding enter node one
   tried zero k q p g m =
       let z : ◌≡◌ {A = ℕ} 0 1 = cc (mathlib.Core.List.Memᴰ.eq_of_singleton m) in absurd (omega arith)
-  tried (suc room) k q p g m = at-node (λ i g' m'. tried room k (i ∷ q) p g' m') (W.check q) refl m
+  tried (suc room) k q p g m = at_node (λ i g' m'. tried room k (i ∷ q) p g' m') (W.check q) refl m
     where
       at_one : ((i : ℕ) → (W.check (i ∷ q) ≡ 0 → Grown W end (i ∷ q)) → Memᴰ (try k p) (enter W room (i ∷ q)) → Tried room k (i ∷ q) p) → W.check q ≡ 0 → (i : ℕ) → i < W.candidates → (v : Verdict) → W.verdict q i ≡ v → Memᴰ (try k p) (one (enter W room) q i v) → Tried (suc room) k q p
       at_one rec h i l (Pass x) e a = let z : ◌≡◌ {A = ℕ} 0 1 = cc (mathlib.Core.List.Memᴰ.eq_of_singleton a) in absurd (omega arith)
@@ -132,15 +132,15 @@ module _ (W : World) (end : ℕ) where
           record { grown = r.grown; few = omega (arith, r.few); candidate = r.candidate; anchored = r.anchored })
           (mathlib.Core.List.Memᴰ.cases_cons a)
 
-      at-node : ((i : ℕ) → (W.check (i ∷ q) ≡ 0 → Grown W end (i ∷ q)) → Memᴰ (try k p) (enter W room (i ∷ q)) → Tried room k (i ∷ q) p) → (x : ℕ) → W.check q ≡ x → Memᴰ (try k p) (node W (enter W room) q x) → Tried (suc room) k q p
-      at-node rec zero h a =
+      at_node : ((i : ℕ) → (W.check (i ∷ q) ≡ 0 → Grown W end (i ∷ q)) → Memᴰ (try k p) (enter W room (i ∷ q)) → Tried room k (i ∷ q) p) → (x : ℕ) → W.check q ≡ x → Memᴰ (try k p) (node W (enter W room) q x) → Tried (suc room) k q p
+      at_node rec zero h a =
           ⊎_elim
           (λ (w : Memᴰ (try k p) (each W (enter W room) q W.candidates 0)).
           let r = of_each W (enter W room) q (try k p) W.candidates 0 w in
           at_one rec h r.0 (omega (arith, r.1)) (W.verdict q r.0) refl r.2)
           (λ (w : Memᴰ (try k p) (leave ∷ [])). let z : ◌≡◌ {A = ℕ} 0 1 = cc (mathlib.Core.List.Memᴰ.eq_of_singleton w) in absurd (omega arith))
           (mathlib.Core.List.Memᴰ.append_cases (each W (enter W room) q W.candidates 0) a)
-      at-node rec (suc x) h a = let z : ◌≡◌ {A = ℕ} 0 1 = cc (mathlib.Core.List.Memᴰ.eq_of_singleton a) in absurd (omega arith)
+      at_node rec (suc x) h a = let z : ◌≡◌ {A = ℕ} 0 1 = cc (mathlib.Core.List.Memᴰ.eq_of_singleton a) in absurd (omega arith)
 
   pub tried_grown : (anchor : ℕ) (p : Path) → Memᴰ (try anchor p) (events W end) → Tried (suc most_intermediates) anchor (end ∷ []) p
   unfolding events

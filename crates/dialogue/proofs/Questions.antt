@@ -23,21 +23,21 @@ module _ (Q : ℕ → What → Type 0) where
   Each (question key what ∷ stages) = Q key what × Each stages
 
   module _ (W : World) where
-    through-questions : (go : ℕ → Tree) (stop : ℕ → ℕ → Tree) → ((s : ℕ) → Questions (go s)) → ((x s : ℕ) → Questions (stop x s)) → (stages : List Stage) (s : ℕ) → Each stages → Questions (through W go stop stages s)
+    through_questions : (go : ℕ → Tree) (stop : ℕ → ℕ → Tree) → ((s : ℕ) → Questions (go s)) → ((x s : ℕ) → Questions (stop x s)) → (stages : List Stage) (s : ℕ) → Each stages → Questions (through W go stop stages s)
     unfolding through Questions Each
-    through-questions go stop g st [] s d = g s
-    through-questions go stop g st (finding zero ∷ stages) s d = through-questions go stop g st stages s d
-    through-questions go stop g st (finding (suc e) ∷ stages) s d = st (suc e) s
-    through-questions go stop g st (question key what ∷ stages) zero d = tt
-    through-questions go stop g st (question key what ∷ stages) (suc s) d = (d.0, λ a. by (W.reply key what a) (through-questions go stop g st stages s d.1))
+    through_questions go stop g st [] s d = g s
+    through_questions go stop g st (finding zero ∷ stages) s d = through_questions go stop g st stages s d
+    through_questions go stop g st (finding (suc e) ∷ stages) s d = st (suc e) s
+    through_questions go stop g st (question key what ∷ stages) zero d = tt
+    through_questions go stop g st (question key what ∷ stages) (suc s) d = (d.0, λ a. by (W.reply key what a) (through_questions go stop g st stages s d.1))
       where
         by : (e : ℕ) → Questions (through W go stop stages s) → Questions (unless e (through W go stop stages s) (λ x. stop x s))
         by zero r = r
         by (suc e) r = st (suc e) s
 
-    conclude-questions : (stop : ℕ → ℕ → Tree) → ((x n : ℕ) → Questions (stop x n)) → (anchor : ℕ) (path : Path) (n : ℕ) → Questions (conclude W stop anchor path n)
+    conclude_questions : (stop : ℕ → ℕ → Tree) → ((x n : ℕ) → Questions (stop x n)) → (anchor : ℕ) (path : Path) (n : ℕ) → Questions (conclude W stop anchor path n)
     unfolding conclude Questions
-    conclude-questions stop st anchor path n = by (ltb n (W.cost anchor path)) (W.named anchor path)
+    conclude_questions stop st anchor path n = by (ltb n (W.cost anchor path)) (W.named anchor path)
       where
         answers : (a : ℕ) → Questions (unless a (done (accepted anchor path)) (λ x. stop x (n - W.cost anchor path)))
         answers zero = tt
@@ -48,17 +48,17 @@ module _ (Q : ℕ → What → Type 0) where
         by false zero = answers
         by false (suc e) = st (suc e) (n - W.cost anchor path)
 
-    pub run-questions : (es : List Event) → ((k : ℕ) (p : Path) → Memᴰ (try k p) es → Each (staged W k p)) → (s b n e : ℕ) → Questions (run W es s b n e)
+    pub run_questions : (es : List Event) → ((k : ℕ) (p : Path) → Memᴰ (try k p) es → Each (staged W k p)) → (s b n e : ℕ) → Questions (run W es s b n e)
     unfolding run Questions
-    run-questions [] t s b n e = tt
-    run-questions (leave ∷ es) t s b n e = run-questions es (λ k p m. t k p (Memᴰ.tail m)) s b n e
-    run-questions (note x ∷ es) t s b n e = run-questions es (λ k p m. t k p (Memᴰ.tail m)) s b n (worse_of e x)
-    run-questions (extension ∷ es) t s zero n e = tt
-    run-questions (extension ∷ es) t s (suc b) n e = run-questions es (λ k p m. t k p (Memᴰ.tail m)) s b n e
-    run-questions (try anchor path ∷ es) t s b n e =
-        through-questions _ _
-        (λ s'. conclude-questions (λ x n'. run W es s' b n' (worse_of e x)) (λ x n'. run-questions es (λ k p m. t k p (Memᴰ.tail m)) s' b n' (worse_of e x)) anchor path n)
-        (λ x s'. run-questions es (λ k p m. t k p (Memᴰ.tail m)) s' b n (worse_of e x)) (staged W anchor path) s (t anchor path (Memᴰ.head refl))
+    run_questions [] t s b n e = tt
+    run_questions (leave ∷ es) t s b n e = run_questions es (λ k p m. t k p (Memᴰ.tail m)) s b n e
+    run_questions (note x ∷ es) t s b n e = run_questions es (λ k p m. t k p (Memᴰ.tail m)) s b n (worse_of e x)
+    run_questions (extension ∷ es) t s zero n e = tt
+    run_questions (extension ∷ es) t s (suc b) n e = run_questions es (λ k p m. t k p (Memᴰ.tail m)) s b n e
+    run_questions (try anchor path ∷ es) t s b n e =
+        through_questions _ _
+        (λ s'. conclude_questions (λ x n'. run W es s' b n' (worse_of e x)) (λ x n'. run_questions es (λ k p m. t k p (Memᴰ.tail m)) s' b n' (worse_of e x)) anchor path n)
+        (λ x s'. run_questions es (λ k p m. t k p (Memᴰ.tail m)) s' b n (worse_of e x)) (staged W anchor path) s (t anchor path (Memᴰ.head refl))
 
   pub along_questions : (t : Tree) (said : List ℕ) → Questions t → Questions (follow t said)
   unfolding follow give Questions

@@ -14,7 +14,7 @@ use Rattle.candidate.specs.declared.Verdict.{Verdict}
 use Rattle.candidate.specs.declared.Verdict.TheVariants.{Pass, Anchor, Extend}
 use Rattle.dialogue.specs.Model.{staged, Path, Stage, question, finding, World, Event, note, extension, try, leave, one, each, node, enter, events}
 use Rattle.dialogue.specs.Log.{What, Turn, answer, word, asked}
-use Rattle.dialogue.specs.Account.{Cleared, here, by_check, by_answer, Declined, at-check, at-answer, at_names, at_offer, noted, extended, left, declined, Gone, nothing, more, Reached}
+use Rattle.dialogue.specs.Account.{Cleared, here, by_check, by_answer, Declined, at_check, at_answer, at_names, at_offer, noted, extended, left, declined, Gone, nothing, more, Reached}
 use Rattle.dialogue.specs.Work.{Sorted}
 use Rattle.dialogue.specs.Room.{over_paths}
 use Rattle.dialogue.proofs.Runs.{asked_append}
@@ -105,15 +105,15 @@ module _ (W : World) (anchors issuers : ℕ) (sorted : Sorted W anchors issuers)
       abbrev further : ℕ
       further = y + whole anchors x y (n - 1) (suc (length q)) room
 
-      issuers-worth : (count i : ℕ) → anchors ≤ i → i + count ≡ anchors + issuers → worth u y (each W (enter W room) q count i) ≤ free q count i * further
+      issuers_worth : (count i : ℕ) → anchors ≤ i → i + count ≡ anchors + issuers → worth u y (each W (enter W room) q count i) ≤ free q count i * further
       unfolding each one worth free
-      issuers-worth zero i l e = omega arith
-      issuers-worth (suc count) i l e =
+      issuers_worth zero i l e = omega arith
+      issuers_worth (suc count) i l e =
           omega (
             arith,
             worth_append u y (one (enter W room) q i (W.verdict q i)) (each W (enter W room) q count (suc i)),
             by (W.verdict q i) refl,
-            issuers-worth count (suc i) (omega (arith, l)) (omega (arith, e)),
+            issuers_worth count (suc i) (omega (arith, l)) (omega (arith, e)),
             add-mul (cond (is_on q i) 0 1) (free q count (suc i)) further,
           )
         where
@@ -124,20 +124,20 @@ module _ (W : World) (anchors issuers : ℕ) (sorted : Sorted W anchors issuers)
               let f = fewer i q (fresh q i h) issuers anchors l (omega (arith, e)) in
               rw (fresh q i h) (omega (arith, deeper i (omega (arith, f, few))))
 
-      each-worth : (some i : ℕ) → i + some ≡ anchors → worth u y (each W (enter W room) q (some + issuers) i) ≤ x (length q) * some + free q issuers anchors * further
+      each_worth : (some i : ℕ) → i + some ≡ anchors → worth u y (each W (enter W room) q (some + issuers) i) ≤ x (length q) * some + free q issuers anchors * further
       unfolding each one worth
-      each-worth zero i e =
+      each_worth zero i e =
           let a : 0 + issuers ≡ issuers = omega arith in
           let b : i ≡ anchors = omega (arith, e) in
-          rw (a, b) (omega (arith, issuers-worth issuers anchors (omega arith) refl))
-      each-worth (suc some) i e =
+          rw (a, b) (omega (arith, issuers_worth issuers anchors (omega arith) refl))
+      each_worth (suc some) i e =
           let a : suc some + issuers ≡ suc (some + issuers) = omega arith in
           rw a
           (omega (
             arith,
             worth_append u y (one (enter W room) q i (W.verdict q i)) (each W (enter W room) q (some + issuers) (suc i)),
             by (W.verdict q i) refl,
-            each-worth some (suc i) (omega (arith, e)),
+            each_worth some (suc i) (omega (arith, e)),
             mul-suc (x (length q)) some,
           ))
         where
@@ -146,12 +146,12 @@ module _ (W : World) (anchors issuers : ℕ) (sorted : Sorted W anchors issuers)
           by Anchor h = omega (arith, most i q (omega (arith, long)))
           by Extend h = absurd (omega (arith, e, sorted.extended q i h))
 
-    enter-worth : (room n : ℕ) (q : Path) → length q + room ≡ suc (suc most_intermediates) → free q issuers anchors ≤ n → worth u y (enter W room q) ≤ whole anchors x y n (length q) room
+    enter_worth : (room n : ℕ) (q : Path) → length q + room ≡ suc (suc most_intermediates) → free q issuers anchors ≤ n → worth u y (enter W room q) ≤ whole anchors x y n (length q) room
     unfolding enter node worth whole
-    enter-worth zero n q r few = omega arith
-    enter-worth (suc room) n q r few =
+    enter_worth zero n q r few = omega arith
+    enter_worth (suc room) n q r few =
         by (W.check q)
-        (each-worth room n q r few (λ i h. enter-worth room (n - 1) (i ∷ q) (omega (arith, r)) h) anchors 0 (omega arith))
+        (each_worth room n q r few (λ i h. enter_worth room (n - 1) (i ∷ q) (omega (arith, r)) h) anchors 0 (omega arith))
       where
         by : (e : ℕ) → worth u y (each W (enter W room) q (anchors + issuers) 0) ≤ x (length q) * anchors + free q issuers anchors * (y + whole anchors x y (n - 1) (suc (length q)) room)
             → worth u y (node W (enter W room) q e) ≤ whole anchors x y n (length q) (suc room)
@@ -166,13 +166,13 @@ module _ (W : World) (anchors issuers : ℕ) (sorted : Sorted W anchors issuers)
         by (suc e) h = omega arith
 
     -- a part of the events, and the one after it
-    reached-worth : (end : ℕ) (before later : List Event) (at : Event) → events W end ≡ before ++ (at ∷ later)
+    reached_worth : (end : ℕ) (before later : List Event) (at : Event) → events W end ≡ before ++ (at ∷ later)
         → worth u y before + worth u y (at ∷ []) ≤ whole anchors x y issuers 1 (suc most_intermediates)
     unfolding events
-    reached-worth end before later at e =
+    reached_worth end before later at e =
         omega (
           arith,
-          enter-worth (suc most_intermediates) issuers (end ∷ []) refl (free_most (end ∷ []) issuers anchors),
+          enter_worth (suc most_intermediates) issuers (end ∷ []) refl (free_most (end ∷ []) issuers anchors),
           ap (worth u y) e,
           worth_append u y before (at ∷ later),
           worth_append u y (at ∷ []) later,
@@ -198,8 +198,8 @@ module _ (W : World) where
 
   declined_few : (k : ℕ) (p : Path) (turns : List Turn) (x m : ℕ) → Declined W k p turns x m → (m ≤ W.cost k p) × (asked turns ≤ questions_of k p)
   unfolding asked inquiries
-  declined_few k p turns x m (at-check e rest c h i) = (omega (arith, i), omega (arith, cleared_asked c))
-  declined_few k p turns x m (at-answer e key what a rest first c y t h i) = (omega (arith, i), omega (arith, cleared_asked c, ap asked t, asked_append first (answer key what a ∷ [])))
+  declined_few k p turns x m (at_check e rest c h i) = (omega (arith, i), omega (arith, cleared_asked c))
+  declined_few k p turns x m (at_answer e key what a rest first c y t h i) = (omega (arith, i), omega (arith, cleared_asked c, ap asked t, asked_append first (answer key what a ∷ [])))
   declined_few k p turns x m (at_names e c y h i) = (omega (arith, i), omega (arith, cleared_asked c))
   declined_few k p turns x m (at_offer e first c y t h i) = (omega (arith, i), omega (arith, cleared_asked c, ap asked t, asked_append first (word k p (suc e) ∷ [])))
 
@@ -223,32 +223,32 @@ module _ (W : World) (anchors issuers : ℕ) (sorted : Sorted W anchors issuers)
       omega (
         arith,
         (gone_worth W r.gone).0,
-        reached-worth W anchors issuers sorted fresh (λ k p. 0) (λ d. 0) 1 (λ k p l. omega arith) end r.before r.later extension r.split,
+        reached_worth W anchors issuers sorted fresh (λ k p. 0) (λ d. 0) 1 (λ k p l. omega arith) end r.before r.later extension r.split,
         whole_extensions anchors issuers 1 (suc most_intermediates),
       )
 
   module _ (x : ℕ → ℕ) (turns : List Turn) (d m anchor : ℕ) (path : Path) (r : Reached W end (try anchor path) turns d m) where
-    pub comparisons-wanted : ((k : ℕ) (p : Path) → length p ≤ suc most_intermediates → W.cost k p ≤ x (length p))
+    pub comparisons_wanted : ((k : ℕ) (p : Path) → length p ≤ suc most_intermediates → W.cost k p ≤ x (length p))
         → m + W.cost anchor path ≤ anchors * over_paths x issuers 1 (suc most_intermediates)
     unfolding worth
-    comparisons-wanted most =
+    comparisons_wanted most =
         omega (
           arith,
           (gone_worth W r.gone).1,
-          reached-worth W anchors issuers sorted fresh W.cost x 0 most end r.before r.later (try anchor path) r.split,
+          reached_worth W anchors issuers sorted fresh W.cost x 0 most end r.before r.later (try anchor path) r.split,
           whole_tries anchors x issuers 1 (suc most_intermediates),
         )
 
-    pub questions-wanted : ((k : ℕ) (p : Path) → length p ≤ suc most_intermediates → inquiries (staged W k p) ≤ x (length p))
+    pub questions_wanted : ((k : ℕ) (p : Path) → length p ≤ suc most_intermediates → inquiries (staged W k p) ≤ x (length p))
         → (last : List Turn) (key : ℕ) (what : What) (rest : List Stage) → Cleared W (staged W anchor path) last (question key what ∷ rest)
         → asked (turns ++ last) < anchors * over_paths x issuers 1 (suc most_intermediates)
     unfolding worth inquiries
-    questions-wanted most last key what rest c =
+    questions_wanted most last key what rest c =
         omega (
           arith,
           asked_append turns last,
           cleared_asked W c,
           (gone_worth W r.gone).2,
-          reached-worth W anchors issuers sorted fresh (questions_of W) x 0 most end r.before r.later (try anchor path) r.split,
+          reached_worth W anchors issuers sorted fresh (questions_of W) x 0 most end r.before r.later (try anchor path) r.split,
           whole_tries anchors x issuers 1 (suc most_intermediates),
         )

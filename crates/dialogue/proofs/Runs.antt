@@ -11,7 +11,7 @@ use Rattle.refusal.specs.Model.{worse_of}
 use Rattle.dialogue.specs.Log.{What, Turn, answer, word, asked}
 use Rattle.dialogue.specs.Model.{staged, Path, Stage, question, finding, World, Event, note, extension, try, leave, Outcome, accepted, spent, Tree, done, offer, unless, through, conclude, run}
 use Rattle.dialogue.specs.Dialogue.{Leads}
-use Rattle.dialogue.specs.Account.{kept, Cleared, here, by_check, by_answer, Declined, at-check, at-answer, at_names, at_offer, Past, noted, extended, left, declined, nothing, more, Last, no-events, content, no-signatures, no_extensions, no-comparisons, Account}
+use Rattle.dialogue.specs.Account.{kept, Cleared, here, by_check, by_answer, Declined, at_check, at_answer, at_names, at_offer, Past, noted, extended, left, declined, nothing, more, Last, no_events, content, no_signatures, no_extensions, no_comparisons, Account}
 
 pub asked_append : (t u : List Turn) → asked (t ++ u) ≡ asked t + asked u
 unfolding asked
@@ -27,39 +27,39 @@ kept_append e (x ∷ xs) ys = kept_append (worse_of e x) xs ys
 module _ (W : World) where
   -- ---- the stages of a path
   data Ended (go : ℕ → Tree) (stop : ℕ → ℕ → Tree) (stages : List Stage) (s : ℕ) (turns : List Turn) (r : Outcome) : Type 0 where
-    all-clear : (t u : List Turn) (s' : ℕ) → Cleared W stages t [] → turns ≡ t ++ u → s ≡ asked t + s' → Leads (go s') u r → Ended go stop stages s turns r
+    all_clear : (t u : List Turn) (s' : ℕ) → Cleared W stages t [] → turns ≡ t ++ u → s ≡ asked t + s' → Leads (go s') u r → Ended go stop stages s turns r
     found : (e : ℕ) (rest : List Stage) (t u : List Turn) (s' : ℕ) → Cleared W stages t (finding (suc e) ∷ rest) → turns ≡ t ++ u → s ≡ asked t + s' → Leads (stop (suc e) s') u r → Ended go stop stages s turns r
     wrong : (e key : ℕ) (what : What) (a : ℕ) (rest : List Stage) (t u : List Turn) (s' : ℕ) → Cleared W stages t (question key what ∷ rest) → W.reply key what a ≡ suc e → turns ≡ t ++ (answer key what a ∷ u) → s ≡ suc (asked t + s') → Leads (stop (suc e) s') u r → Ended go stop stages s turns r
     out_of : (key : ℕ) (what : What) (rest : List Stage) → Cleared W stages turns (question key what ∷ rest) → asked turns ≡ s → r ≡ spent maximum_signature_checks_exceeded → Ended go stop stages s turns r
 
   module _ (go : ℕ → Tree) (stop : ℕ → ℕ → Tree) where
-    past-check : (stages : List Stage) (s : ℕ) (turns : List Turn) (r : Outcome) → Ended go stop stages s turns r → Ended go stop (finding 0 ∷ stages) s turns r
-    past-check stages s turns r (all-clear t u s' c l q h) = all-clear t u s' (by_check c) l q h
-    past-check stages s turns r (found e rest t u s' c l q h) = found e rest t u s' (by_check c) l q h
-    past-check stages s turns r (wrong e k w a rest t u s' c y l q h) = wrong e k w a rest t u s' (by_check c) y l q h
-    past-check stages s turns r (out_of k w rest c q h) = out_of k w rest (by_check c) q h
+    past_check : (stages : List Stage) (s : ℕ) (turns : List Turn) (r : Outcome) → Ended go stop stages s turns r → Ended go stop (finding 0 ∷ stages) s turns r
+    past_check stages s turns r (all_clear t u s' c l q h) = all_clear t u s' (by_check c) l q h
+    past_check stages s turns r (found e rest t u s' c l q h) = found e rest t u s' (by_check c) l q h
+    past_check stages s turns r (wrong e k w a rest t u s' c y l q h) = wrong e k w a rest t u s' (by_check c) y l q h
+    past_check stages s turns r (out_of k w rest c q h) = out_of k w rest (by_check c) q h
 
-    past-answer : (k : ℕ) (w : What) (a : ℕ) (stages : List Stage) (s : ℕ) (turns all : List Turn) (r : Outcome) → W.reply k w a ≡ 0 → all ≡ answer k w a ∷ turns → Ended go stop stages s turns r → Ended go stop (question k w ∷ stages) (suc s) all r
+    past_answer : (k : ℕ) (w : What) (a : ℕ) (stages : List Stage) (s : ℕ) (turns all : List Turn) (r : Outcome) → W.reply k w a ≡ 0 → all ≡ answer k w a ∷ turns → Ended go stop stages s turns r → Ended go stop (question k w ∷ stages) (suc s) all r
     unfolding asked
-    past-answer k w a stages s turns all r y g (all-clear t u s' c l q h) =
-        all-clear (answer k w a ∷ t) u s' (by_answer k w a y c) (g ∙ ap (λ (z : List Turn). answer k w a ∷ z) l) (omega arith) h
-    past-answer k w a stages s turns all r y g (found e rest t u s' c l q h) =
+    past_answer k w a stages s turns all r y g (all_clear t u s' c l q h) =
+        all_clear (answer k w a ∷ t) u s' (by_answer k w a y c) (g ∙ ap (λ (z : List Turn). answer k w a ∷ z) l) (omega arith) h
+    past_answer k w a stages s turns all r y g (found e rest t u s' c l q h) =
         found e rest (answer k w a ∷ t) u s' (by_answer k w a y c) (g ∙ ap (λ (z : List Turn). answer k w a ∷ z) l) (omega arith) h
-    past-answer k w a stages s turns all r y g (wrong e j v d rest t u s' c x l q h) =
+    past_answer k w a stages s turns all r y g (wrong e j v d rest t u s' c x l q h) =
         wrong e j v d rest (answer k w a ∷ t) u s' (by_answer k w a y c) x (g ∙ ap (λ (z : List Turn). answer k w a ∷ z) l) (omega arith) h
-    past-answer k w a stages s turns all r y g (out_of j v rest c q h) =
+    past_answer k w a stages s turns all r y g (out_of j v rest c q h) =
         rw g (out_of j v rest (by_answer k w a y c) (omega arith) h)
 
     ended : (stages : List Stage) (s : ℕ) (turns : List Turn) (r : Outcome) → Leads (through W go stop stages s) turns r → Ended go stop stages s turns r
     unfolding through Leads asked
-    ended [] s turns r h = all-clear [] turns s here refl (omega arith) h
-    ended (finding zero ∷ stages) s turns r h = past-check stages s turns r (ended stages s turns r h)
+    ended [] s turns r h = all_clear [] turns s here refl (omega arith) h
+    ended (finding zero ∷ stages) s turns r h = past_check stages s turns r (ended stages s turns r h)
     ended (finding (suc e) ∷ stages) s turns r h = found e stages [] turns s here refl (omega arith) h
     ended (question k w ∷ stages) zero turns r h = out_of k w stages (rw h.0 here) (rw h.0) (sym h.1)
     ended (question k w ∷ stages) (suc s) turns r h = by (W.reply k w h.0) refl (ended stages s h.1 r) h.3
       where
         by : (x : ℕ) → W.reply k w h.0 ≡ x → (Leads (through W go stop stages s) h.1 r → Ended go stop stages s h.1 r) → Leads (unless x (through W go stop stages s) (λ x. stop x s)) h.1 r → Ended go stop (question k w ∷ stages) (suc s) turns r
-        by zero y rec l = past-answer k w h.0 stages s h.1 turns r y h.2 (rec l)
+        by zero y rec l = past_answer k w h.0 stages s h.1 turns r y h.2 (rec l)
         by (suc e) y rec l = wrong e k w h.0 stages [] h.1 s here y h.2 (omega arith) l
 
   -- ---- a try
@@ -86,7 +86,7 @@ module _ (W : World) where
             → Leads (cond f (done (spent maximum_name_constraint_comparisons_exceeded)) (unless x (offer k p (λ a. unless a (done (accepted k p)) (λ x. run W es s' b (n - W.cost k p) (worse_of e x)))) (λ x. run W es s' b (n - W.cost k p) (worse_of e x)))) u r → Tested k p es s b n e turns r
         by true f x y i =
             let all : turns ≡ t = l ∙ ap (λ (z : List Turn). t ++ z) i.0 ∙ append-nil t in
-            ends (no-comparisons k p es refl (rw all c) (rw all (omega arith)) (ltb-true n (W.cost k p) f) (sym i.1))
+            ends (no_comparisons k p es refl (rw all c) (rw all (omega arith)) (ltb-true n (W.cost k p) f) (sym i.1))
         by false f zero y i = said (ltb-false n (W.cost k p) f) y i.0 i.1 i.2 i.3
         by false f (suc x) y i =
             let g = ltb-false n (W.cost k p) f in
@@ -97,12 +97,12 @@ module _ (W : World) where
     tested h = by (ended (λ s'. conclude W (λ x n'. run W es s' b n' (worse_of e x)) k p n) (λ x s'. run W es s' b n (worse_of e x)) (staged W k p) s turns r h)
       where
         by : Ended (λ s'. conclude W (λ x n'. run W es s' b n' (worse_of e x)) k p n) (λ x s'. run W es s' b n (worse_of e x)) (staged W k p) s turns r → Tested k p es s b n e turns r
-        by (all-clear t u s' c l q i) = concluded t u s' c l q i
-        by (found x rest t u s' c l q i) = goes_on t u (suc x) 0 s' n (at-check x rest c refl refl) l q (omega arith) i
+        by (all_clear t u s' c l q i) = concluded t u s' c l q i
+        by (found x rest t u s' c l q i) = goes_on t u (suc x) 0 s' n (at_check x rest c refl refl) l q (omega arith) i
         by (wrong x j w a rest t u s' c y l q i) =
-            goes_on (t ++ (answer j w a ∷ [])) u (suc x) 0 s' n (at-answer x j w a rest t c y refl refl refl)
+            goes_on (t ++ (answer j w a ∷ [])) u (suc x) 0 s' n (at_answer x j w a rest t c y refl refl refl)
             (l ∙ sym (append_assoc t (answer j w a ∷ []) u)) (omega (arith, asked_append t (answer j w a ∷ []))) (omega arith) i
-        by (out_of j w rest c q i) = ends (no-signatures k p es j w rest refl c q i)
+        by (out_of j w rest c q i) = ends (no_signatures k p es j w rest refl c q i)
 
   -- ---- the account
   -- a run that ends at once
@@ -119,12 +119,12 @@ module _ (W : World) where
     extensions = 0;
     comparisons = 0;
     gone = nothing;
-    signatures-left = s;
-    extensions-left = b;
-    comparisons-left = n;
-    signatures-used = omega arith;
-    extensions-used = omega arith;
-    comparisons-used = omega arith;
+    signatures_left = s;
+    extensions_left = b;
+    comparisons_left = n;
+    signatures_used = omega arith;
+    extensions_used = omega arith;
+    comparisons_used = omega arith;
     end = h;
   }
 
@@ -142,18 +142,18 @@ module _ (W : World) where
     extensions = d + a.extensions;
     comparisons = m + a.comparisons;
     gone = more p a.gone;
-    signatures-left = a.signatures-left;
-    extensions-left = a.extensions-left;
-    comparisons-left = a.comparisons-left;
-    signatures-used = omega (arith, asked_append t a.first);
-    extensions-used = omega arith;
-    comparisons-used = omega arith;
+    signatures_left = a.signatures_left;
+    extensions_left = a.extensions_left;
+    comparisons_left = a.comparisons_left;
+    signatures_used = omega (arith, asked_append t a.first);
+    extensions_used = omega arith;
+    comparisons_used = omega arith;
     end = rw (kept_append e xs a.noted) a.end;
   }
 
   pub account : (es : List Event) (s b n e : ℕ) (turns : List Turn) (r : Outcome) → Leads (run W es s b n e) turns r → Account W es s b n e turns r
   unfolding run Leads kept asked
-  account [] s b n e turns r h = at_once (no-events refl h.0 (sym h.1))
+  account [] s b n e turns r h = at_once (no_events refl h.0 (sym h.1))
   account (note x ∷ es) s b n e turns r h =
       further (note x) es s b n e turns r [] turns (x ∷ []) 0 0 s b n (noted x) refl (omega arith) (omega arith) (omega arith)
       (account es s b n (worse_of e x) turns r h)

@@ -8,7 +8,7 @@ use Rattle.refusal.specs.Refusals.{unknown_issuer}
 use Rattle.dialogue.specs.Log.{What, Turn, answer, word, SaidContent}
 use Rattle.dialogue.specs.Model.{staged, Path, Stage, question, finding, World, Event, try, accepted, events, search}
 use Rattle.dialogue.specs.Dialogue.{Leads}
-use Rattle.dialogue.specs.Account.{kept, Cleared, here, by_check, by_answer, Last, no-events, content, no-signatures, no_extensions, no-comparisons, Account, Closing}
+use Rattle.dialogue.specs.Account.{kept, Cleared, here, by_check, by_answer, Last, no_events, content, no_signatures, no_extensions, no_comparisons, Account, Closing}
 use Rattle.dialogue.specs.Acceptable.{InOrder, Acceptable, Given}
 use Rattle.dialogue.proofs.Runs.{account}
 use Rattle.dialogue.proofs.Events.{tried_grown}
@@ -50,8 +50,8 @@ module _ (W : World) where
     unfolding search
     won h = let a = account W (events W end) s b n unknown_issuer turns (accepted anchor path) h in by a a.end
       where
-        by : (a : Account W (events W end) s b n unknown_issuer turns (accepted anchor path)) → Last W a.after a.signatures-left a.extensions-left a.comparisons-left (kept unknown_issuer a.noted) a.last (accepted anchor path) → Won anchor path
-        by a (no-events p q r) = let z : ◌≡◌ {A = ℕ} 0 1 = cc in absurd (omega arith)
+        by : (a : Account W (events W end) s b n unknown_issuer turns (accepted anchor path)) → Last W a.after a.signatures_left a.extensions_left a.comparisons_left (kept unknown_issuer a.noted) a.last (accepted anchor path) → Won anchor path
+        by a (no_events p q r) = let z : ◌≡◌ {A = ℕ} 0 1 = cc in absurd (omega arith)
         by a (content k p later first e c y q f g r) =
             let ek : k ≡ anchor = cc in
             let ep : p ≡ path = cc in
@@ -63,9 +63,9 @@ module _ (W : World) where
               closing = record { earlier = a.first; own = first; talk = all; cleared = c };
             } in
             subst (λ (i : ℕ). Won i path) ek (subst (λ (l : Path). Won k l) ep whole)
-        by a (no-signatures k p later key what rest e c q r) = let z : ◌≡◌ {A = ℕ} 0 1 = cc in absurd (omega arith)
+        by a (no_signatures k p later key what rest e c q r) = let z : ◌≡◌ {A = ℕ} 0 1 = cc in absurd (omega arith)
         by a (no_extensions later e p q r) = let z : ◌≡◌ {A = ℕ} 0 1 = cc in absurd (omega arith)
-        by a (no-comparisons k p later e c q f r) = let z : ◌≡◌ {A = ℕ} 0 1 = cc in absurd (omega arith)
+        by a (no_comparisons k p later e c q f r) = let z : ◌≡◌ {A = ℕ} 0 1 = cc in absurd (omega arith)
 
     pub closing : Leads (search W end s b n) turns (accepted anchor path) → Closing W turns anchor path
     closing h = (won h).closing

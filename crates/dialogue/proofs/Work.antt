@@ -24,31 +24,31 @@ use Rattle.dialogue.proofs.Room.{worth, gone_worth}
 -- ---- the events in their places are the events
 module _ (W : World) where
   module _ (deeper : Path → List Event) (deeperAt : Path → List Placed) (same : (q : Path) → map event_of (deeperAt q) ≡ deeper q) where
-    one-events : (q : Path) (i : ℕ) (v : Verdict) → map event_of (one_at deeperAt q i v) ≡ one deeper q i v
+    one_events : (q : Path) (i : ℕ) (v : Verdict) → map event_of (one_at deeperAt q i v) ≡ one deeper q i v
     unfolding one_at one event_of
-    one-events q i (Pass x) = refl
-    one-events q i Anchor = refl
-    one-events q i Extend = ap (λ (es : List Event). extension ∷ es) (same (i ∷ q))
+    one_events q i (Pass x) = refl
+    one_events q i Anchor = refl
+    one_events q i Extend = ap (λ (es : List Event). extension ∷ es) (same (i ∷ q))
 
-    each-events : (q : Path) (count i : ℕ) → map event_of (each_at W deeperAt q count i) ≡ each W deeper q count i
+    each_events : (q : Path) (count i : ℕ) → map event_of (each_at W deeperAt q count i) ≡ each W deeper q count i
     unfolding each_at each
-    each-events q zero i = refl
-    each-events q (suc count) i =
+    each_events q zero i = refl
+    each_events q (suc count) i =
         map-append event_of (one_at deeperAt q i (W.verdict q i)) (each_at W deeperAt q count (suc i))
-        ∙ ap (λ (es : List Event). es ++ map event_of (each_at W deeperAt q count (suc i))) (one-events q i (W.verdict q i))
-        ∙ ap (λ (es : List Event). one deeper q i (W.verdict q i) ++ es) (each-events q count (suc i))
+        ∙ ap (λ (es : List Event). es ++ map event_of (each_at W deeperAt q count (suc i))) (one_events q i (W.verdict q i))
+        ∙ ap (λ (es : List Event). one deeper q i (W.verdict q i) ++ es) (each_events q count (suc i))
 
-    node-events : (q : Path) (x : ℕ) → map event_of (node_at W deeperAt q x) ≡ node W deeper q x
+    node_events : (q : Path) (x : ℕ) → map event_of (node_at W deeperAt q x) ≡ node W deeper q x
     unfolding node_at node event_of
-    node-events q zero =
+    node_events q zero =
         map-append event_of (each_at W deeperAt q W.candidates 0) (at q W.candidates leave ∷ [])
-        ∙ ap (λ (es : List Event). es ++ (leave ∷ [])) (each-events q W.candidates 0)
-    node-events q (suc x) = refl
+        ∙ ap (λ (es : List Event). es ++ (leave ∷ [])) (each_events q W.candidates 0)
+    node_events q (suc x) = refl
 
   enter_events : (room : ℕ) (q : Path) → map event_of (enter_at W room q) ≡ enter W room q
   unfolding enter_at enter event_of
   enter_events zero q = refl
-  enter_events (suc room) q = node-events (enter W room) (enter_at W room) (enter_events room) q (W.check q)
+  enter_events (suc room) q = node_events (enter W room) (enter_at W room) (enter_events room) q (W.check q)
 
   pub placed_events : (end : ℕ) → map event_of (placed W end) ≡ events W end
   unfolding placed events
@@ -273,7 +273,7 @@ module _ (W : World) (end s b n : ℕ) (turns : List Turn) (r : Outcome) (h : Le
       let gone : take (length a.before) (map event_of (placed W end)) ≡ a.before =
       ap (λ (es : List Event). take (length a.before) es) (placed_events W end ∙ a.split) ∙ take_at a.before a.after (length a.before) refl in
       let few : worth (λ k p. 0) 1 (take (length a.before) (map event_of (placed W end))) ≤ b =
-      omega (arith, ap (worth (λ k p. 0) 1) gone, (gone_worth W a.gone).0, a.extensions-used) in
+      omega (arith, ap (worth (λ k p. 0) 1) gone, (gone_worth W a.gone).0, a.extensions_used) in
       omega (arith, first_paid w (placed W end) (length a.before) b few, events_within W w share m g end b)
 
   pub few_events : length (accounted W end s b n turns r h).before + length (take 1 (accounted W end s b n turns r h).after) ≤ suc W.candidates * suc b
@@ -303,9 +303,9 @@ module _ (W : World) (end s b n : ℕ) (turns : List Turn) (r : Outcome) (h : Le
     nobody x y = rw (le-ltb W.candidates anchors (omega (arith, sorted.all))) (rw (le-ltb W.candidates W.candidates (omega arith)) refl)
 
     -- anchors tried: each of the anchors at most once at each path
-    pub few-tries : weight a_try reached ≤ anchors * suc b
+    pub few_tries : weight a_try reached ≤ anchors * suc b
     unfolding a_try
-    few-tries =
+    few_tries =
         omega (
           arith,
           few a_try (λ d. 1) (λ d. 0) (record {
@@ -322,13 +322,13 @@ module _ (W : World) (end s b n : ℕ) (turns : List Turn) (r : Outcome) (h : Le
         )
 
     -- certificates looked up
-    pub few-lookups : weight (lookups anchors W.candidates) reached + (accounted W end s b n turns r h).extensions ≤ entered (level_lookups anchors issuers) 0 (suc b) + b
+    pub few_lookups : weight (lookups anchors W.candidates) reached + (accounted W end s b n turns r h).extensions ≤ entered (level_lookups anchors issuers) 0 (suc b) + b
     unfolding lookups try_lookups issuer_lookups level_lookups pairs
-    few-lookups =
+    few_lookups =
         let a = accounted W end s b n turns r h in
         omega (
           arith,
-          a.extensions-used,
+          a.extensions_used,
           few (lookups anchors W.candidates) try_lookups issuer_lookups (record {
             passed = λ p i e o l. rw (lt-ltb i anchors l) (omega (arith, o));
             tried = λ p i. omega arith;
@@ -348,7 +348,7 @@ module _ (W : World) (end s b n : ℕ) (turns : List Turn) (r : Outcome) (h : Le
         let a = accounted W end s b n turns r h in
         omega (
           arith,
-          mul-le-mul_left {m = suc a.extensions} {n = suc b} (check_looks distrusted) (omega (arith, a.extensions-used)),
+          mul-le-mul_left {m = suc a.extensions} {n = suc b} (check_looks distrusted) (omega (arith, a.extensions_used)),
           few (looks distrusted anchors W.candidates) (try_looks distrusted) issuer_looks (record {
             passed = λ p i e o l. rw (lt-ltb i anchors l) (omega arith);
             tried = λ p i. omega arith;

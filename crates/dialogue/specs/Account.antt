@@ -29,9 +29,9 @@ module _ (W : World) where
 
   -- the turns of a path that is refused at an anchor, the refusal, the comparisons made
   pub data Declined (anchor : ℕ) (path : Path) (turns : List Turn) (x made : ℕ) : Type 0 where
-    at-check : (e : ℕ) (rest : List Stage) → Cleared (staged W anchor path) turns (finding (suc e) ∷ rest)
+    at_check : (e : ℕ) (rest : List Stage) → Cleared (staged W anchor path) turns (finding (suc e) ∷ rest)
         → x ≡ suc e → made ≡ 0 → Declined anchor path turns x made
-    at-answer : (e key : ℕ) (what : What) (a : ℕ) (rest : List Stage) (first : List Turn) → Cleared (staged W anchor path) first (question key what ∷ rest)
+    at_answer : (e key : ℕ) (what : What) (a : ℕ) (rest : List Stage) (first : List Turn) → Cleared (staged W anchor path) first (question key what ∷ rest)
         → W.reply key what a ≡ suc e → turns ≡ first ++ (answer key what a ∷ []) → x ≡ suc e → made ≡ 0 → Declined anchor path turns x made
     at_names : (e : ℕ) → Cleared (staged W anchor path) turns []
         → W.named anchor path ≡ suc e → x ≡ suc e → made ≡ W.cost anchor path → Declined anchor path turns x made
@@ -52,16 +52,16 @@ module _ (W : World) where
 
   -- what ends a run, with what is then left: the events, the budgets; the refusal so far, the last turns, the outcome
   pub data Last (es : List Event) (s b n e : ℕ) (turns : List Turn) (r : Outcome) : Type 0 where
-    no-events : es ≡ [] → turns ≡ [] → r ≡ refused e → Last es s b n e turns r
+    no_events : es ≡ [] → turns ≡ [] → r ≡ refused e → Last es s b n e turns r
     content : (anchor : ℕ) (path : Path) (later : List Event) (first : List Turn) → es ≡ try anchor path ∷ later
         → Cleared (staged W anchor path) first [] → W.named anchor path ≡ 0 → turns ≡ first ++ (word anchor path 0 ∷ [])
         → asked turns ≤ s → W.cost anchor path ≤ n → r ≡ accepted anchor path → Last es s b n e turns r
-    no-signatures : (anchor : ℕ) (path : Path) (later : List Event) (key : ℕ) (what : What) (rest : List Stage) → es ≡ try anchor path ∷ later
+    no_signatures : (anchor : ℕ) (path : Path) (later : List Event) (key : ℕ) (what : What) (rest : List Stage) → es ≡ try anchor path ∷ later
         → Cleared (staged W anchor path) turns (question key what ∷ rest) → asked turns ≡ s
         → r ≡ spent maximum_signature_checks_exceeded → Last es s b n e turns r
     no_extensions : (later : List Event) → es ≡ extension ∷ later → turns ≡ [] → b ≡ 0
         → r ≡ spent maximum_path_build_calls_exceeded → Last es s b n e turns r
-    no-comparisons : (anchor : ℕ) (path : Path) (later : List Event) → es ≡ try anchor path ∷ later
+    no_comparisons : (anchor : ℕ) (path : Path) (later : List Event) → es ≡ try anchor path ∷ later
         → Cleared (staged W anchor path) turns [] → asked turns ≤ s → n < W.cost anchor path
         → r ≡ spent maximum_name_constraint_comparisons_exceeded → Last es s b n e turns r
 
@@ -77,13 +77,13 @@ module _ (W : World) where
     pub extensions : ℕ
     pub comparisons : ℕ
     pub gone : Gone before first noted extensions comparisons
-    pub signatures-left : ℕ
-    pub extensions-left : ℕ
-    pub comparisons-left : ℕ
-    pub signatures-used : s ≡ asked first + signatures-left
-    pub extensions-used : b ≡ extensions + extensions-left
-    pub comparisons-used : n ≡ comparisons + comparisons-left
-    pub end : Last after signatures-left extensions-left comparisons-left (kept e noted) last r
+    pub signatures_left : ℕ
+    pub extensions_left : ℕ
+    pub comparisons_left : ℕ
+    pub signatures_used : s ≡ asked first + signatures_left
+    pub extensions_used : b ≡ extensions + extensions_left
+    pub comparisons_used : n ≡ comparisons + comparisons_left
+    pub end : Last after signatures_left extensions_left comparisons_left (kept e noted) last r
 
 -- the comparisons of an accepted path itself
 unfoldable pub own_cost : World → Outcome → ℕ

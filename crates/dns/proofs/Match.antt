@@ -374,11 +374,11 @@ stricter_wild ys (b ∷ bs) s = go (eqb b dot) refl
     go false d = absurd (let k = sym (cut_more b bs d) ∙ s.is in let z : ◌≡◌ {A = ℕ} 0 1 = cc in omega arith)
 
 excluded_complete : (p q : List ℕ) → Shown p → entry_name q ≡ true → SomeIn (labels p) (labels q) ⊎ Stricter (labels p) (labels q) → meets_subtree p q ≡ true
-excluded_complete p q (plain s b) v (inl x) = plain_meets p q b ∙ subtree_complete p q (plain-some x.stands)
+excluded_complete p q (plain s b) v (inl x) = plain_meets p q b ∙ subtree_complete p q (plain_some x.stands)
   where
-    plain-some : StandsFor (labels p) x.name → InSubtree (labels q) (labels p)
-    plain-some (inl y) = subtree_same (labels q) x.name (labels p) (sym y.1) x.inside
-    plain-some (inr y) = absurd (true_false y.is_starred s)
+    plain_some : StandsFor (labels p) x.name → InSubtree (labels q) (labels p)
+    plain_some (inl y) = subtree_same (labels q) x.name (labels p) (sym y.1) x.inside
+    plain_some (inr y) = absurd (true_false y.is_starred s)
 excluded_complete p q (plain s b) v (inr x) = absurd (true_false x.is_starred s)
 excluded_complete p q (wild ys k) v (inl x) = rw k (by_name x.stands)
   where

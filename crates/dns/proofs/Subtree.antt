@@ -143,11 +143,11 @@ dot_complete p x e = ⊎_elim (λ l. longer l) (λ l. shorter l) (lt_or_le (leng
     n : length p - length (dot ∷ x) ≡ length c.before
     n = omega (arith, cut_lengths p x e)
 
-    tail-is : tail p (dot ∷ x) ≡ c.byte ∷ c.after
-    tail-is = ap (λ (k : ℕ). drop k p) n ∙ ap (λ (t : List ℕ). drop (length c.before) t) c.is ∙ drop-append_seam c.before (c.byte ∷ c.after)
+    tail_is : tail p (dot ∷ x) ≡ c.byte ∷ c.after
+    tail_is = ap (λ (k : ℕ). drop k p) n ∙ ap (λ (t : List ℕ). drop (length c.before) t) c.is ∙ drop-append_seam c.before (c.byte ∷ c.after)
 
     longer : length (dot ∷ x) < length p → in_subtree p (dot ∷ x) ≡ true
-    longer l = after_dot p (dot ∷ x) (omega arith) l refl ∙ rw tail-is same_end
+    longer l = after_dot p (dot ∷ x) (omega arith) l refl ∙ rw tail_is same_end
 
     none_before : length p ≤ length (dot ∷ x) → p ≡ c.byte ∷ c.after
     none_before l = c.is ∙ ap (λ (t : List ℕ). t ++ (c.byte ∷ c.after)) (no_bytes c.before (omega (arith, cut_lengths p x e)))
@@ -184,7 +184,7 @@ unfolding begins
 other_complete p b bs d (same e) =
     let l : length p ≡ length (b ∷ bs) = sym (length-map p small) ∙ ap length e ∙ length-map (b ∷ bs) small in
     at_most p (b ∷ bs) (omega arith) (omega arith) ∙ small_same p (b ∷ bs) e
-other_complete p b bs d (ends e) = at_dot p (b ∷ bs) (omega arith) more d dot-is ∙ rw tail-is (small_same c.after (b ∷ bs) c.after_is)
+other_complete p b bs d (ends e) = at_dot p (b ∷ bs) (omega arith) more d dot_is ∙ rw tail_is (small_same c.after (b ∷ bs) c.after_is)
   where
     c : CutAt p e.front dot (map small (b ∷ bs))
     c = cut_there p (b ∷ bs) e
@@ -192,13 +192,13 @@ other_complete p b bs d (ends e) = at_dot p (b ∷ bs) (omega arith) more d dot-
     more : length (b ∷ bs) < length p
     more = omega (arith, cut_lengths p (b ∷ bs) e)
 
-    dot-is : eqb (get_or p (length p - length (b ∷ bs) - 1) 0) dot ≡ true
-    dot-is =
+    dot_is : eqb (get_or p (length p - length (b ∷ bs) - 1) 0) dot ≡ true
+    dot_is =
         let n : length p - length (b ∷ bs) - 1 ≡ length c.before = omega (arith, cut_lengths p (b ∷ bs) e) in
         rw n (ap (λ (h : List ℕ). eqb (get_or h (length c.before) 0) dot) c.is ∙ rw (get_or-append_seam c.before c.byte c.after 0) (byte_dot c.byte c.byte_is))
 
-    tail-is : tail p (b ∷ bs) ≡ c.after
-    tail-is =
+    tail_is : tail p (b ∷ bs) ≡ c.after
+    tail_is =
         let n : length p - length (b ∷ bs) ≡ length c.before + 1 = omega (arith, cut_lengths p (b ∷ bs) e) in
         ap (λ (k : ℕ). drop k p) n ∙ ap (λ (h : List ℕ). drop (length c.before + 1) h) c.is ∙ drop-append-add c.before (c.byte ∷ c.after) 1
 

@@ -29,7 +29,7 @@ use Rattle.extensions.proofs.Steps.{go_next}
 use Rattle.extensions.proofs.Value.{place_end, find_in, find_last_in}
 use Rattle.extensions.proofs.Small.{critical_found}
 use Rattle.extensions.proofs.Numbers.{number_some, kind_is, none_kind}
-use Rattle.extensions.proofs.Slots.{Holds, alone, kept_usage, kept_sequence, filled, after_all, used, one, set_filled, none_filled, after_more, after_none, used-filled, used-none, after_first}
+use Rattle.extensions.proofs.Slots.{Holds, alone, kept_usage, kept_sequence, filled, after_all, used, one, set_filled, none_filled, after_more, after_none, used_filled, used_none, after_first}
 use borrow.Author.Tests.{eq-eqb}
 
 -- ---- one extension
@@ -211,7 +211,7 @@ module _ (s : List ℕ) (to : ℕ) (strict : Bool) (l : to ≤ length s) where
       let b : at < at' = t.ahead in
       let c : at' ≤ to = t.inside in
       let r = list_found xs at' t.now c (omega arith) t.left each
-      (λ n m. omega (arith, used-filled k t.now at x n m t.set (omega (arith, room n m)), room n m))
+      (λ n m. omega (arith, used_filled k t.now at x n m t.set (omega (arith, room n m)), room n m))
       (turn to all_kept steps at at' k t.now g (omega arith) b (go_next t.found)) in
       record {
         now = r.now;
@@ -228,7 +228,7 @@ list_whole : (s : List ℕ) (from to : ℕ) (strict : Bool) (xs : List Extension
     → ((n : ℕ) → KnownNumber n → occurs n xs ≤ 1) → gathered s from to strict ≡ All (slots from xs)
 unfolding gathered
 list_whole s from to strict xs h l small e each once =
-    let r = list_found s to strict l xs from none_known h small e each (λ n m. omega (arith, once n m, used-none n m)) (start to all_kept (λ at x. go_on (taken s at to x strict)) from none_known) in
+    let r = list_found s to strict l xs from none_known h small e each (λ n m. omega (arith, once n m, used_none n m)) (start to all_kept (λ at x. go_on (taken s at to x strict)) from none_known) in
     r.found ∙ ap All (after_first r.now from xs r.set)
 
 pub extensions_found : (s : List ℕ) (from to : ℕ) (strict : Bool) (es : Extensions) → from ≤ to → to ≤ length s → to - from < LIMIT → part s from to ≡ extensions es → Each strict (listed es)

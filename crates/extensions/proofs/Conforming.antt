@@ -10,7 +10,7 @@ use Rattle.parts.proofs.Equal.{same_true}
 use Rattle.extensions.specs.Rfc5280.{Extension, Extensions, listed, id_ce, is_number, sequence}
 use Rattle.extensions.specs.Conforming.{ConformingExtension, Distinct, ConformingExtensions}
 use Rattle.extensions.specs.Conforming as conforming
-use Rattle.extensions.specs.Accepted.{KnownNumber, key_usage, subject_alt_name, basic_constraints, name_constraints, c_rldistribution_points, ext_key_usage, occurs}
+use Rattle.extensions.specs.Accepted.{KnownNumber, key_usage, subject_alt_name, basic_constraints, name_constraints, crl_distribution_points, ext_key_usage, occurs}
 use Rattle.extensions.specs.Accepted.{Taken, usage, known, other, Each, none, more, Recognized}
 use Rattle.extensions.proofs.Numbers.{numbers, false_true}
 use Rattle.extensions.proofs.Complete.{number_is}
@@ -25,7 +25,7 @@ Known x = (n : ℕ) × KnownNumber n × (x.identifier ≡ id_ce n)
 
 known_or_not : (x : Extension) → Known x ⊎ ((n : ℕ) → KnownNumber n → is_number n x ≡ false)
 known_or_not x =
-    try key_usage (λ a. try subject_alt_name (λ b. try basic_constraints (λ c. try name_constraints (λ d. try c_rldistribution_points (λ e. try ext_key_usage (λ f.
+    try key_usage (λ a. try subject_alt_name (λ b. try basic_constraints (λ c. try name_constraints (λ d. try crl_distribution_points (λ e. try ext_key_usage (λ f.
     inr (numbers (λ n. is_number n x ≡ false) a b c d e f)))))))
   where
     go : {n : ℕ} {R : Type 0} (b : Bool) → is_number n x ≡ b → KnownNumber n → (is_number n x ≡ false → Known x ⊎ R) → Known x ⊎ R
@@ -41,7 +41,7 @@ taken_known strict x c n key_usage is = usage is
 taken_known strict x c n subject_alt_name is = let v = c.value 17 48 1 conforming.subject_alt_name is in known 17 subject_alt_name (λ e. omega arith) is v.content v.is
 taken_known strict x c n basic_constraints is = let v = c.value 19 48 0 conforming.basic_constraints is in known 19 basic_constraints (λ e. omega arith) is v.content v.is
 taken_known strict x c n name_constraints is = let v = c.value 30 48 1 conforming.name_constraints is in known 30 name_constraints (λ e. omega arith) is v.content v.is
-taken_known strict x c n c_rldistribution_points is = let v = c.value 31 48 1 conforming.c_rldistribution_points is in known 31 c_rldistribution_points (λ e. omega arith) is v.content v.is
+taken_known strict x c n crl_distribution_points is = let v = c.value 31 48 1 conforming.crl_distribution_points is in known 31 crl_distribution_points (λ e. omega arith) is v.content v.is
 taken_known strict x c n ext_key_usage is = let v = c.value 37 48 1 conforming.ext_key_usage is in known 37 ext_key_usage (λ e. omega arith) is v.content v.is
 
 not_number : (n : ℕ) (x : Extension) → x.identifier ≡ id_ce n → is_number n x ≡ false → ⊥

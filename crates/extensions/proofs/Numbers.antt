@@ -15,7 +15,7 @@ use Rattle.der.proofs.Invert.{peel, either}
 use Rattle.parts.proofs.Equal.{same_true, same_refl}
 use Rattle.der.proofs.Parts.{part_length, part_cons, part_none}
 use Rattle.extensions.specs.Model.{known_kind, kind_of}
-use Rattle.extensions.specs.Accepted.{KnownNumber, key_usage, subject_alt_name, basic_constraints, name_constraints, c_rldistribution_points, ext_key_usage}
+use Rattle.extensions.specs.Accepted.{KnownNumber, key_usage, subject_alt_name, basic_constraints, name_constraints, crl_distribution_points, ext_key_usage}
 use Rattle.extensions.specs.Rfc5280.{id_ce}
 use Rattle.extensions.proofs.Inversion.{chosen}
 use Rattle.extensions.proofs.Small.{part_first}
@@ -33,7 +33,7 @@ numbers P a b c d e f n key_usage = a
 numbers P a b c d e f n subject_alt_name = b
 numbers P a b c d e f n basic_constraints = c
 numbers P a b c d e f n name_constraints = d
-numbers P a b c d e f n c_rldistribution_points = e
+numbers P a b c d e f n crl_distribution_points = e
 numbers P a b c d e f n ext_key_usage = f
 
 pub number_some : (n : ℕ) → KnownNumber n → n ≡ 0 → ⊥
@@ -55,7 +55,7 @@ known_kind_inv n k e some =
     ⊎_elim (λ q. same_number subject_alt_name (eqb-true n 17 q.0) q.1) (λ q.
     ⊎_elim (λ r. same_number basic_constraints (eqb-true n 19 r.0) r.1) (λ r.
     ⊎_elim (λ t. same_number name_constraints (eqb-true n 30 t.0) t.1) (λ t.
-    ⊎_elim (λ u. same_number c_rldistribution_points (eqb-true n 31 u.0) u.1) (λ u.
+    ⊎_elim (λ u. same_number crl_distribution_points (eqb-true n 31 u.0) u.1) (λ u.
     ⊎_elim (λ v. same_number ext_key_usage (eqb-true n 37 v.0) v.1) (λ v. absurd (some (sym v.1)))
     (either (eqb n 37) u.1))
     (either (eqb n 31) t.1))

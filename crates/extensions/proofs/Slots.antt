@@ -16,7 +16,7 @@ use Rattle.parts.specs.Lists.{same_list}
 use Rattle.extensions.specs.declared.Slot.{Slot}
 use Rattle.extensions.specs.declared.Known.{Known}
 use Rattle.extensions.specs.Model.{put, set_slot, slot_of, none_known}
-use Rattle.extensions.specs.Accepted.{occurs, KnownNumber, key_usage, subject_alt_name, basic_constraints, name_constraints, c_rldistribution_points, ext_key_usage}
+use Rattle.extensions.specs.Accepted.{occurs, KnownNumber, key_usage, subject_alt_name, basic_constraints, name_constraints, crl_distribution_points, ext_key_usage}
 use Rattle.extensions.specs.Rfc5280.{Extension, extension, is_number, id_ce}
 use Rattle.extensions.proofs.Numbers.{numbers}
 use Rattle.extensions.specs.Layout.{place_of, absent, there, header, value_of, kept_of, slot_for, slots}
@@ -38,7 +38,7 @@ slot_laid at xs = numbers (λ n. slot_of (slots at xs) n ≡ slot_for n at xs) r
 same_slots : (k l : Known) → ((n : ℕ) → KnownNumber n → slot_of k n ≡ slot_of l n) → k ≡ l
 unfolding slot_of
 same_slots k l h =
-    rebuilt (h 15 key_usage) (h 17 subject_alt_name) (h 19 basic_constraints) (h 30 name_constraints) (h 31 c_rldistribution_points) (h 37 ext_key_usage)
+    rebuilt (h 15 key_usage) (h 17 subject_alt_name) (h 19 basic_constraints) (h 30 name_constraints) (h 31 crl_distribution_points) (h 37 ext_key_usage)
   where
     rebuilt : {a a' b b' c c' d d' e e' f f' : Slot} → a ≡ a' → b ≡ b' → c ≡ c' → d ≡ d' → e ≡ e' → f ≡ f'
         → ◌≡◌ {A = Known}
@@ -162,7 +162,7 @@ known_within s k h =
       alternative_name = h 17 subject_alt_name;
       basic_constraints = h 19 basic_constraints;
       name_constraints = h 30 name_constraints;
-      distribution_points = h 31 c_rldistribution_points;
+      distribution_points = h 31 crl_distribution_points;
       key_purposes = h 37 ext_key_usage;
     }
 
@@ -175,21 +175,21 @@ used k n = cond (slot_of k n).known 1 0
 unfoldable pub one : ℕ → Extension → ℕ
 one n x = cond (is_number n x) 1 0
 
-pub used-none : (n : ℕ) → KnownNumber n → used none_known n ≡ 0
+pub used_none : (n : ℕ) → KnownNumber n → used none_known n ≡ 0
 unfolding used
-used-none n number = rw (slot_empty n number)
+used_none n number = rw (slot_empty n number)
 
-pub used-few : (known : Known) (n : ℕ) → used known n ≤ 1
+pub used_few : (known : Known) (n : ℕ) → used known n ≤ 1
 unfolding used
-used-few known n = go (slot_of known n).known
+used_few known n = go (slot_of known n).known
   where
     go : (b : Bool) → cond b 1 0 ≤ 1
     go true = omega arith
     go false = omega arith
 
-pub used-filled : (k k' : Known) (at : ℕ) (x : Extension) (n : ℕ) → KnownNumber n → Holds k' (filled k at x) → used k n + one n x ≤ 1 → used k' n ≡ used k n + one n x
+pub used_filled : (k k' : Known) (at : ℕ) (x : Extension) (n : ℕ) → KnownNumber n → Holds k' (filled k at x) → used k n + one n x ≤ 1 → used k' n ≡ used k n + one n x
 unfolding used one filled
-used-filled k k' at x n number step h = rw (step n number) (go (is_number n x) h)
+used_filled k k' at x n number step h = rw (step n number) (go (is_number n x) h)
   where
     go : (b : Bool) → cond (slot_of k n).known 1 0 + cond b 1 0 ≤ 1 → cond (cond b (kept_of n at x) (slot_of k n)).known 1 0 ≡ cond (slot_of k n).known 1 0 + cond b 1 0
     go true i = rw (kept_known n at x) (omega arith)

@@ -30,7 +30,7 @@ use Rattle.extensions.proofs.Steps.{go_next, go_stop}
 use Rattle.extensions.proofs.Value.{Here, here, here_split}
 use Rattle.extensions.proofs.Small.{critical_here}
 use Rattle.extensions.proofs.Numbers.{kind_inv, kind_none}
-use Rattle.extensions.proofs.Slots.{Holds, Within, AllWithin, set_within, alone, kept_usage, kept_sequence, filled, after_all, used, one, set_filled, none_filled, after_more, after_none, used-few, used-filled, KnownWithin, known_within, none_within, after_first, used-none}
+use Rattle.extensions.proofs.Slots.{Holds, Within, AllWithin, set_within, alone, kept_usage, kept_sequence, filled, after_all, used, one, set_filled, none_filled, after_more, after_none, used_few, used_filled, KnownWithin, known_within, none_within, after_first, used_none}
 
 -- ---- one extension
 -- the extension that the places cut out
@@ -95,7 +95,7 @@ step_passed s at to whole x k strict now w i c p =
       within = w.within;
       allowed = other never (λ t u. p.allowed t (c.critical ∙ u));
       set = rw p.same (none_filled k at (cut s c.form x) never);
-      room = λ n m. rw (never n m) (omega (arith, used-few k n));
+      room = λ n m. rw (never n m) (omega (arith, used_few k n));
       sits = λ h. rw p.same h;
     }
 
@@ -190,7 +190,7 @@ list_none s at k strict =
       bytes = part_none s at;
       each = none;
       set = after_none k at;
-      room = λ n m. omega (arith, used-few k n);
+      room = λ n m. omega (arith, used_few k n);
       sits = λ h. h;
     }
 
@@ -203,7 +203,7 @@ list_more s at at' to k k' strict now t l =
     let a = t.ahead in
     let n : at' ≡ at + length (extension x) = omega (arith, sym (ap length t.bytes) ∙ part_length s at at' (omega (arith, t.within))) in
     let count : (n : ℕ) → KnownNumber n → used k n + (cond (is_number n x) 1 0 + occurs n xs) ≤ 1 =
-    λ n m. omega (arith, used-filled k k' at x n m t.set (t.room n m), l.room n m) in
+    λ n m. omega (arith, used_filled k k' at x n m t.set (t.room n m), l.room n m) in
     record {
       xs = x ∷ xs;
       bytes = part_split s at at' to (omega arith) o ∙ rw (t.bytes, l.bytes);
@@ -277,7 +277,7 @@ some_extensions s b from to strict k l =
       bytes = sym (ap (λ (n : ℕ). part s from n) l.field_end) ∙ f.bytes ∙ ap (encoding 163) inner;
       known_is = after_first k l.list.start h.xs h.set ∙ ap (λ (p : Span). slots p.start h.xs) list ∙ ap (λ (p : Span). slots (place_of p.start (extension_list h.xs)).start h.xs) field;
       each = h.each;
-      once = λ n m. omega (arith, h.room n m, used-none n m);
+      once = λ n m. omega (arith, h.room n m, used_none n m);
       sits = known_within s k (h.sits (none_within s));
     }
 

@@ -9,7 +9,7 @@ pub data KnownNumber : ℕ → Type 0 where
   subject_alt_name : KnownNumber 17
   basic_constraints : KnownNumber 19
   name_constraints : KnownNumber 30
-  c_rldistribution_points : KnownNumber 31
+  crl_distribution_points : KnownNumber 31
   ext_key_usage : KnownNumber 37
 
 -- how often extension n is in a list

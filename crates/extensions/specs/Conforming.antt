@@ -20,7 +20,7 @@ pub data Typed : ℕ → ℕ → ℕ → Type 0 where
   name_constraints : Typed 30 48 1
   policy_constraints : Typed 36 48 1
   ext_key_usage : Typed 37 48 1
-  c_rldistribution_points : Typed 31 48 1
+  crl_distribution_points : Typed 31 48 1
   inhibit_any_policy : Typed 54 2 1
   freshest_crl : Typed 46 48 1
 

@@ -201,23 +201,23 @@ module _ (p q : List ℕ) (bp : Bytes p) (bq : Bytes q) where
     halves : Halves p q a m
     halves = record { is = sym (take-append-drop (length p) q); address_size = length-take-le (length p) q (omega (arith, twice)); mask_size = length-drop (length p) q ∙ omega (arith, twice) }
 
-    bytes-two : (x y : List ℕ) → Bytes (x ++ y) → Bytes x × Bytes y
-    bytes-two [] y b = ((λ i. omega arith), b)
-    bytes-two (z ∷ x) y b = let r = bytes-two x y (λ i. b (suc i)) in (cons z x (b 0) r.0, r.1)
+    bytes_two : (x y : List ℕ) → Bytes (x ++ y) → Bytes x × Bytes y
+    bytes_two [] y b = ((λ i. omega arith), b)
+    bytes_two (z ∷ x) y b = let r = bytes_two x y (λ i. b (suc i)) in (cons z x (b 0) r.0, r.1)
       where
         cons : (z : ℕ) (x : List ℕ) → z < 256 → Bytes x → Bytes (z ∷ x)
         cons z x h b zero = h
         cons z x h b (suc i) = b i
 
     says : Says p a m
-    says = let b = bytes-two a m (rw (← take-append-drop (length p) q) at bq) in subnet_says p a m bp b.0 b.1 size halves.address_size halves.mask_size
+    says = let b = bytes_two a m (rw (← take-append-drop (length p) q) at bq) in subnet_says p a m bp b.0 b.1 size halves.address_size halves.mask_size
 
     is_said : (x : Answer) → match_subnet p (a ++ m) ≡ x → match_subnet p q ≡ x
     is_said x e = ap (match_subnet p) halves.is ∙ e
 
     -- an answer says that the mask is good for the address
-    answered-masked : Answered (match_subnet p q) → Masked p q
-    answered-masked d = go says
+    answered_masked : Answered (match_subnet p q) → Masked p q
+    answered_masked d = go says
       where
         go : Says p a m → Masked p q
         go (prefix n x w) = whole a m n halves x
@@ -253,7 +253,7 @@ module _ (p q : List ℕ) (bp : Bytes p) (bq : Bytes q) where
   pub address_comparable : Answered (match_subnet p q) → (IsAddress p × IsEntry q) × (length q ≡ length p * 2 → Masked p q)
   address_comparable d =
       let s = sizes (match_subnet p q) d refl in
-      (s, λ l. answered-masked s.0 l d)
+      (s, λ l. answered_masked s.0 l d)
 
   pub comparable_address : IsAddress p → IsEntry q → (length q ≡ length p * 2 → Masked p q) → Answered (match_subnet p q)
   comparable_address s t k = go (eqb (length q) (length p * 2)) refl

@@ -225,10 +225,10 @@ after_broken full z ms e (x ∷ p) (y ∷ a) l h = byte_broken full x y z p a ms
 
 whole_answers : (n k : ℕ) (p a : List ℕ) → Bytes p → Bytes a → n ≤ 8 * k → length p ≡ k → length a ≡ k → Decides (subnet_from true p a (mask_of n k)) (Inside n p a)
 whole_answers n k p a b c l h i =
-    ap-answers (ap (subnet_from true p a) (append-nil (mask_of n k))) (front k n p a [] Yes b c l (omega arith) (omega arith) (after_none (eqb n (8 * k))))
+    ap_answers (ap (subnet_from true p a) (append-nil (mask_of n k))) (front k n p a [] Yes b c l (omega arith) (omega arith) (after_none (eqb n (8 * k))))
   where
-    ap-answers : {x y : Answer} → x ≡ y → Decides x (Inside n p a) → Decides y (Inside n p a)
-    ap-answers e w = rw e at w
+    ap_answers : {x y : Answer} → x ≡ y → Decides x (Inside n p a) → Decides y (Inside n p a)
+    ap_answers e w = rw e at w
 
 -- ---- a byte after which no mask goes on
 bytes_take : (i : ℕ) (m : List ℕ) → Bytes m → Bytes (take i m)

@@ -89,9 +89,9 @@ module _ (R : Request) (lends : Lends R) (key what : ℕ) (x : About R key what)
     algorithm : Span
     signature : Span
     is : question_of R.issuers R.end R.keys (length R.subjects) key what ≡ Of signed algorithm signature key_here
-    signed-in : Lie (bytes_of R what) signed.start signed.end
-    algorithm-in : Lie (bytes_of R what) algorithm.start algorithm.end
-    signature-in : Lie (bytes_of R what) signature.start signature.end
+    signed_in : Lie (bytes_of R what) signed.start signed.end
+    algorithm_in : Lie (bytes_of R what) algorithm.start algorithm.end
+    signature_in : Lie (bytes_of R what) signature.start signature.end
 
   told : Told
   unfolding question_in on_outline outlined
@@ -103,9 +103,9 @@ module _ (R : Request) (lends : Lends R) (key what : ℕ) (x : About R key what)
         algorithm = r.0.algorithm;
         signature = r.0.signature;
         is = rw r.1;
-        signed-in = within _ _ _ i.signed;
-        algorithm-in = within _ _ _ i.algorithm;
-        signature-in = within _ _ _ i.signature;
+        signed_in = within _ _ _ i.signed;
+        algorithm_in = within _ _ _ i.algorithm;
+        signature_in = within _ _ _ i.signature;
       }
 
   shut : (e : ℕ) → key_here ≡ NoKey e → (e ≡ 0 → ⊥) → Opens R.issuers R.end R.keys (length R.subjects) key → ⊥
@@ -125,7 +125,7 @@ module _ (R : Request) (lends : Lends R) (key what : ℕ) (x : About R key what)
   unfolding asked_of
   key_said (KeyParts p q) e f =
       let d = key_parted R.issuers R.end R.keys (length R.subjects) key (lends.keys key) (bytes R lends key) p q e in
-      (λ h. record { key = d.key; is = d.is; algorithm = _; bits = _; content = d.content; algorithm_is = refl; bits_is = refl; algorithm-in = within _ _ _ d.algorithm_within; bits_in = within _ _ _ d.bits_within }, λ h o. h refl)
+      (λ h. record { key = d.key; is = d.is; algorithm = _; bits = _; content = d.content; algorithm_is = refl; bits_is = refl; algorithm_in = within _ _ _ d.algorithm_within; bits_in = within _ _ _ d.bits_within }, λ h o. h refl)
   key_said (NoKey n) e (key_not f) = (λ h. absurd (omega (arith, f.0, h)), λ h. shut n e h)
 
   asks_of : (k : Key) → KeySaid (asking k) → Asks R (asking k)
@@ -146,12 +146,12 @@ module _ (R : Request) (lends : Lends R) (key what : ℕ) (x : About R key what)
             signed_is = z.signed_is;
             algorithm_is = z.algorithm_is;
             signature_is = z.signature_is;
-            signed-in = told.signed-in;
-            algorithm-in = told.algorithm-in;
-            signature-in = told.signature-in;
+            signed_in = told.signed_in;
+            algorithm_in = told.algorithm_in;
+            signature_in = told.signature_in;
             whose = x.whose;
-            key-told = s.0;
-            key-shut = s.1;
+            key_told = s.0;
+            key_shut = s.1;
           }
       by (NoKey n) s =
           record {
@@ -163,12 +163,12 @@ module _ (R : Request) (lends : Lends R) (key what : ℕ) (x : About R key what)
             signed_is = z.signed_is;
             algorithm_is = z.algorithm_is;
             signature_is = z.signature_is;
-            signed-in = told.signed-in;
-            algorithm-in = told.algorithm-in;
-            signature-in = told.signature-in;
+            signed_in = told.signed_in;
+            algorithm_in = told.algorithm_in;
+            signature_in = told.signature_in;
             whose = x.whose;
-            key-told = s.0;
-            key-shut = s.1;
+            key_told = s.0;
+            key_shut = s.1;
           }
 
 -- THEOREM

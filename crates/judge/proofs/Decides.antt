@@ -28,7 +28,7 @@ use Rattle.conditions.specs.Decided.{Decided}
 use Rattle.conditions.proofs.Accepts.{accepts}
 use Rattle.conditions.proofs.Closed.{follow_closed, talk_closed, decision_is, decision_none}
 use Rattle.conditions.proofs.Room.{too_small}
-use Rattle.conditions.proofs.Decided.{answered, found-stands, found-closes}
+use Rattle.conditions.proofs.Decided.{answered, found_stands, found_closes}
 use Rattle.steps.specs.declared.Step.{Step}
 use Rattle.judge.specs.Steps.{Sees, At}
 use Rattle.judge.specs.Decides.{path_of, Decides}
@@ -156,8 +156,8 @@ module _ (R : Request) (lends : Lends R) (B : Budgets) (said : List ℕ) (r : St
       let g = give_offer searched k p u is in
       let found : follow (search_of R B) (said ++ (0 ∷ [])) ≡ done (accepted k p) = follow_more (search_of R B) said 0 ∙ g.0 ∙ ro.2 in
       let longer : talk (search_of R B) (said ++ (0 ∷ [])) ≡ search_log ++ (word k p 0 ∷ []) = talk_more (search_of R B) said 0 ∙ ap (λ (l : List Turn). search_log ++ l) g.1 in
-      let x = found-stands R lends B (said ++ (0 ∷ [])) k p found (SaidYes search_log) (λ key what y. before_word key what 0 k p 0 search_log (rw longer at y)) in
-      let y = found-closes R lends B (said ++ (0 ∷ [])) k p found in
+      let x = found_stands R lends B (said ++ (0 ∷ [])) k p found (SaidYes search_log) (λ key what y. before_word key what 0 k p 0 search_log (rw longer at y)) in
+      let y = found_closes R lends B (said ++ (0 ∷ [])) k p found in
       let z : EndsWith search_log (yeses k p) = (y.0, last_off search_log (y.0 ++ yeses k p) (word k p 0) (sym longer ∙ y.1 ∙ sym (append_assoc y.0 (yeses k p) (word k p 0 ∷ [])))) in
       record { stands = rw (s.1, s.2) x; closes = rw (s.1, s.2) z }
 
@@ -171,7 +171,7 @@ module _ (R : Request) (lends : Lends R) (B : Budgets) (said : List ℕ) (r : St
 
   record Rest : Type 0 where
     left : Left B.signatures log r
-    offered-so : r.phase ≡ 2 → Offered R log r
+    offered_so : r.phase ≡ 2 → Offered R log r
 
   rest_read : (c : Certificate) → read_certificate R.end true ≡ Accepted c → Rest
   unfolding world_of
@@ -183,7 +183,7 @@ module _ (R : Request) (lends : Lends R) (B : Budgets) (said : List ℕ) (r : St
       let x = along (search_of R B) said B.signatures 0 (search_room (world_for R) (end_of R) B.signatures B.extensions B.comparisons) in
       record {
         left = rw t (left_at B.signatures (talk (search_of R B) said) r e x.left x.more (follow (search_of R B) said) x.room s x.questions (omega (arith, x.offers)));
-        offered-so = λ h. rw t (offered_at R lends B said r e x.left x.more (follow (search_of R B) said) refl x.room s h);
+        offered_so = λ h. rw t (offered_at R lends B said r e x.left x.more (follow (search_of R B) said) refl x.room s h);
       }
 
   rest_unread : (x : ℕ) → read_certificate R.end true ≡ NotRead x → Rest
@@ -195,7 +195,7 @@ module _ (R : Request) (lends : Lends R) (B : Budgets) (said : List ℕ) (r : St
       let s : Sees r (done (refused x)) = subst (λ (u : Tree). Sees r u) (ap (λ (u : Tree). follow u said) n ∙ d.0) at.sees in
       record {
         left = rw t (record { questions = omega arith; offers = omega arith; question_left = λ h. other_phase r 4 1 s.0 h (λ z. omega (arith, z)); offer_left = λ h. other_phase r 4 2 s.0 h (λ z. omega (arith, z)) });
-        offered-so = λ h. other_phase r 4 2 s.0 h (λ z. omega (arith, z));
+        offered_so = λ h. other_phase r 4 2 s.0 h (λ z. omega (arith, z));
       }
 
   rest : Rest
@@ -217,8 +217,8 @@ module _ (R : Request) (lends : Lends R) (B : Budgets) (said : List ℕ) (r : St
         yes = λ h. (outcome (accepted r.anchor (path_of r)) (found_at r tree at.sees h)).yes r.anchor (path_of r) refl;
         yes_closes = λ h. (outcome (accepted r.anchor (path_of r)) (found_at r tree at.sees h)).closing r.anchor (path_of r) refl;
         no = λ h. (outcome (refused r.refusal) (refused_at r tree at.sees h)).no r.refusal refl;
-        offer = λ h. (x.offered-so h).stands;
-        offer_closes = λ h. (x.offered-so h).closes;
+        offer = λ h. (x.offered_so h).stands;
+        offer_closes = λ h. (x.offered_so h).closes;
         used_up = λ h. too_small R lends B log r.refusal ((outcome (spent r.refusal) (spent_at r tree at.sees h)).used_up r.refusal refl);
         phases = p;
         questions = l.questions;

@@ -28,7 +28,7 @@ use Rattle.machine.specs.declared.Phase.TheVariants.{Walk, Ask, Offer, Found, Re
 use Rattle.machine.specs.Machine.{phase_tree, tree_of, phase_effort, effort, key_at, cert_at, what_at, begin, Answered, Came}
 use Rattle.machine.specs.World.{world_of, world_in}
 use Rattle.machine.proofs.Lent.{world_held}
-use Rattle.machine.proofs.Whole.{ran_bound, few-moves}
+use Rattle.machine.proofs.Whole.{ran_bound, few_moves}
 use Rattle.conditions.specs.Request.{Request, Budgets, end_of}
 use Rattle.conditions.specs.Model.{name_of, named, closed, world_for, search_of, decision}
 use Rattle.told.specs.declared.Asked.{Asked}
@@ -51,15 +51,15 @@ module _ (T I : List (List ℕ)) (E : List ℕ) (h : Held T I E) where
   shown_held n q kind name s r e = e ∙ ap (λ (g : Reading). shown_as (name_by g E kind name) s s.phase) (end_held n q)
 
   -- what holds of the world that the machine sees holds of the bytes' own
-  on-bytes {ℓ} : (P : World → Type ℓ) (S K C : List (List ℕ)) (B : List ℕ) (D : List (List ℕ)) (t : ℕ) (w : List ℕ) (m : Bool) (n : ℕ) → n ≡ length S → P (world_in (readings_in T I E n) I E S K C B D t w m) → P (world_of I E S K C B D t w m)
-  on-bytes P S K C B D t w m n q p = subst P (world_held T I E S K C B D t w m n q h) p
+  on_bytes {ℓ} : (P : World → Type ℓ) (S K C : List (List ℕ)) (B : List ℕ) (D : List (List ℕ)) (t : ℕ) (w : List ℕ) (m : Bool) (n : ℕ) → n ≡ length S → P (world_in (readings_in T I E n) I E S K C B D t w m) → P (world_of I E S K C B D t w m)
+  on_bytes P S K C B D t w m n q p = subst P (world_held T I E S K C B D t w m n q h) p
 
   module _ (S K C : List (List ℕ)) (B : List ℕ) (D : List (List ℕ)) (t : ℕ) (w : List ℕ) (m : Bool) (n : ℕ) (q : n ≡ length S) where
     pub came_held : (k sg ex cm : ℕ) (said : List ℕ) (s : State) → Came (world_in (readings_in T I E n) I E S K C B D t w m) k sg ex cm said s → Came (world_of I E S K C B D t w m) k sg ex cm said s
-    came_held k sg ex cm said s = on-bytes (λ W. Came W k sg ex cm said s) S K C B D t w m n q
+    came_held k sg ex cm said s = on_bytes (λ W. Came W k sg ex cm said s) S K C B D t w m n q
 
-    pub answered-held : (u s : State) (a : ℕ) → Answered (world_in (readings_in T I E n) I E S K C B D t w m) u a s → Answered (world_of I E S K C B D t w m) u a s
-    answered-held u s a = on-bytes (λ W. Answered W u a s) S K C B D t w m n q
+    pub answered_held : (u s : State) (a : ℕ) → Answered (world_in (readings_in T I E n) I E S K C B D t w m) u a s → Answered (world_of I E S K C B D t w m) u a s
+    answered_held u s a = on_bytes (λ W. Answered W u a s) S K C B D t w m n q
 
 -- what is said of a name, by what is read of the end entity
 pub name_read : (end : List ℕ) (kind : ℕ) (name : List ℕ) (r : Reading) (x : ℕ) → r ≡ read_certificate end true → x ≡ name_by r end kind name → x ≡ name_of end kind name
@@ -181,13 +181,13 @@ module _ (R : Request) where
       }
 
   module _ (B : Budgets) where
-    read-decision : (c : Certificate) → read_certificate R.end true ≡ Accepted c → closed naming (search_of R B) ≡ decision R B
+    read_decision : (c : Certificate) → read_certificate R.end true ≡ Accepted c → closed naming (search_of R B) ≡ decision R B
     unfolding decision on_reading
-    read-decision c e = sym (rw e)
+    read_decision c e = sym (rw e)
 
-    unread-at : (e : ℕ) → read_certificate R.end true ≡ NoCertificate e → (r : Step) (a b c : ℕ) → r ≡ ended_step e a b c → At R (decision R B) r
+    unread_at : (e : ℕ) → read_certificate R.end true ≡ NoCertificate e → (r : Step) (a b c : ℕ) → r ≡ ended_step e a b c → At R (decision R B) r
     unfolding decision on_reading tree_from state_of phase_of phase_tree closed named
-    unread-at e q r a b c h = rw (q, h) record { sees = (refl, refl); stands = refl }
+    unread_at e q r a b c h = rw (q, h) record { sees = (refl, refl); stands = refl }
 
 -- ---- a whole run
 module _ (R : Request) (B : Budgets) where
@@ -198,17 +198,17 @@ module _ (R : Request) (B : Budgets) where
       let g : Came (world_for R) (end_of R) B.signatures B.extensions B.comparisons said s = subst (λ (j : ℕ). Came (world_for R) j B.signatures B.extensions B.comparisons said s) m k in
       subst (λ (w : Step). Run R B said w) (sym e) record {
         at = subst (λ (v : Tree). At R v (shown_as (name_of R.end R.kind R.name) s s.phase))
-            (ap (closed (naming R)) g.same ∙ closed_follow (naming R) (search_of R B) said ∙ ap (λ (v : Tree). follow v said) (read-decision R B c q))
+            (ap (closed (naming R)) g.same ∙ closed_follow (naming R) (search_of R B) said ∙ ap (λ (v : Tree). follow v said) (read_decision R B c q))
             (shown_at R s g.deep g.halts);
         moves = g.moves;
         made = read (ran g.ran);
-        few = omega (arith, few-moves (world_for R) _ _ _ _ _ _ _ g.ran, shown_left R s s.phase (naming R) g.deep refl g.halts);
+        few = omega (arith, few_moves (world_for R) _ _ _ _ _ _ _ g.ran, shown_left R s s.phase (naming R) g.deep refl g.halts);
       }
 
   pub not_read : (said : List ℕ) (e : ℕ) → read_certificate R.end true ≡ NoCertificate e → (r : Step) (a b c : ℕ) → r ≡ ended_step e a b c → Run R B said r
   unfolding decision on_reading state_of phase_of phase_effort
   not_read said e q r a b c h = record {
-    at = subst (λ (v : Tree). At R v r) (rw q (sym (follow_done (refused e) said))) (unread-at R B e q r a b c h);
+    at = subst (λ (v : Tree). At R v r) (rw q (sym (follow_done (refused e) said))) (unread_at R B e q r a b c h);
     moves = 0;
     made = unread e q;
     few = rw h (omega arith);

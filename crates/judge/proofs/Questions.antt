@@ -10,7 +10,7 @@ use Rattle.machine.specs.Machine.{key_at, cert_at, what_at}
 use Rattle.dialogue.specs.Log.{What, of_certificate, of_list}
 use Rattle.dialogue.specs.Model.{Path, staged, try, events, search}
 use Rattle.dialogue.specs.Dialogue.{follow}
-use Rattle.dialogue.proofs.Questions.{Questions, Each, run-questions}
+use Rattle.dialogue.proofs.Questions.{Questions, Each, run_questions}
 use Rattle.conditions.specs.Request.{Request, Budgets, end_of}
 use Rattle.conditions.specs.Model.{world_for, search_of, decision}
 use Rattle.conditions.proofs.Closed.{request_questions}
@@ -34,7 +34,7 @@ down_each Q R key (n ∷ ns) d = (d.0, down_each Q R n ns d.1)
 pub search_asks : (Q : ℕ → ℕ → Type 0) (R : Request) (B : Budgets) → ((k : ℕ) (p : Path) → Memᴰ (try k p) (events (world_for R) (end_of R)) → Down Q k p) → Questions (OfCertificate Q) (search_of R B)
 unfolding search
 search_asks Q R B t =
-    run-questions (OfCertificate Q) (world_for R) (events (world_for R) (end_of R)) (λ k p m. down_each Q R k p (t k p m)) B.signatures B.extensions B.comparisons _
+    run_questions (OfCertificate Q) (world_for R) (events (world_for R) (end_of R)) (λ k p m. down_each Q R k p (t k p m)) B.signatures B.extensions B.comparisons _
 
 -- a question is what the state says that it is: about a certificate, no list
 pub state_asks : (Q : ℕ → ℕ → Type 0) (s : State) → OfCertificate Q (key_at s) (what_at s) → Q (key_at s) (cert_at s) × (what_at s ≡ of_certificate (cert_at s))

@@ -30,7 +30,7 @@ module _ (R : Request) (q : Asked) where
     pub content : key ≡ key_content algorithm bits
     pub algorithm_is : part holder q.key_algorithm_start q.key_algorithm_end ≡ algorithm
     pub bits_is : part holder q.key_bits_start q.key_bits_end ≡ bits
-    pub algorithm-in : Lie holder q.key_algorithm_start q.key_algorithm_end
+    pub algorithm_in : Lie holder q.key_algorithm_start q.key_algorithm_end
     pub bits_in : Lie holder q.key_bits_start q.key_bits_end
 
   pub record Asks : Type 0 where
@@ -43,14 +43,14 @@ module _ (R : Request) (q : Asked) where
     pub signed_is : part (bytes_of R q.certificate) q.signed_start q.signed_end ≡ tbs_certificate k
     pub algorithm_is : part (bytes_of R q.certificate) q.algorithm_start q.algorithm_end ≡ k.algorithm
     pub signature_is : part (bytes_of R q.certificate) q.signature_start q.signature_end ≡ k.signature
-    pub signed-in : Lie (bytes_of R q.certificate) q.signed_start q.signed_end
-    pub algorithm-in : Lie (bytes_of R q.certificate) q.algorithm_start q.algorithm_end
-    pub signature-in : Lie (bytes_of R q.certificate) q.signature_start q.signature_end
+    pub signed_in : Lie (bytes_of R q.certificate) q.signed_start q.signed_end
+    pub algorithm_in : Lie (bytes_of R q.certificate) q.algorithm_start q.algorithm_end
+    pub signature_in : Lie (bytes_of R q.certificate) q.signature_start q.signature_end
     -- and about a key of the request: an anchor's, or an intermediate's
     pub whose : q.key < end_of R
-    pub key-told : q.key_refusal ≡ 0 → KeyTold
+    pub key_told : q.key_refusal ≡ 0 → KeyTold
     -- or the key cannot be read, and then no answer is yes
-    pub key-shut : (q.key_refusal ≡ 0 → ⊥) → Opens R.issuers R.end R.keys (length R.subjects) q.key → ⊥
+    pub key_shut : (q.key_refusal ≡ 0 → ⊥) → Opens R.issuers R.end R.keys (length R.subjects) q.key → ⊥
 
 -- ---- THEOREM
 abbrev pub AsksType : Type 0

@@ -91,29 +91,29 @@ module _ (l : Label) (b : ℕ) (no_dot : eqb b 46 ≡ false) where
   take_long s = search (no_dot, s)
 
   module _ (fits : leb 63 l.size ≡ false) where
-    take-lone : eqb b 45 ≡ true → eqb l.size 0 ≡ true → take_byte l b ≡ Bad
+    take_lone : eqb b 45 ≡ true → eqb l.size 0 ≡ true → take_byte l b ≡ Bad
     unfolding take_byte
-    take-lone h z = search (no_dot, fits, h, z)
+    take_lone h z = search (no_dot, fits, h, z)
 
-    take-hyphen : eqb b 45 ≡ true → eqb l.size 0 ≡ false → take_byte l b ≡ grown l true false
+    take_hyphen : eqb b 45 ≡ true → eqb l.size 0 ≡ false → take_byte l b ≡ grown l true false
     unfolding take_byte
-    take-hyphen h z = search (no_dot, fits, h, z)
+    take_hyphen h z = search (no_dot, fits, h, z)
 
-    take-digit : eqb b 45 ≡ false → digit b ≡ true → take_byte l b ≡ grown l false l.digits
+    take_digit : eqb b 45 ≡ false → digit b ≡ true → take_byte l b ≡ grown l false l.digits
     unfolding take_byte
-    take-digit h d = search (no_dot, fits, h, d)
+    take_digit h d = search (no_dot, fits, h, d)
 
-    take-letter : eqb b 45 ≡ false → digit b ≡ false → letter b ≡ true → take_byte l b ≡ grown l false false
+    take_letter : eqb b 45 ≡ false → digit b ≡ false → letter b ≡ true → take_byte l b ≡ grown l false false
     unfolding take_byte
-    take-letter h d a = search (no_dot, fits, h, d, a)
+    take_letter h d a = search (no_dot, fits, h, d, a)
 
-    take-underscore : eqb b 45 ≡ false → digit b ≡ false → letter b ≡ false → eqb b 95 ≡ true → take_byte l b ≡ grown l false false
+    take_underscore : eqb b 45 ≡ false → digit b ≡ false → letter b ≡ false → eqb b 95 ≡ true → take_byte l b ≡ grown l false false
     unfolding take_byte
-    take-underscore h d a u = search (no_dot, fits, h, d, a, u)
+    take_underscore h d a u = search (no_dot, fits, h, d, a, u)
 
-    take-other : eqb b 45 ≡ false → digit b ≡ false → letter b ≡ false → eqb b 95 ≡ false → take_byte l b ≡ Bad
+    take_other : eqb b 45 ≡ false → digit b ≡ false → letter b ≡ false → eqb b 95 ≡ false → take_byte l b ≡ Bad
     unfolding take_byte
-    take-other h d a u = search (no_dot, fits, h, d, a, u)
+    take_other h d a u = search (no_dot, fits, h, d, a, u)
 
 -- ---- and which bytes are a label's
 byte_by : (b : ℕ) (x : Bool) → eqb b 45 ≡ false → digit b ≡ false → letter b ≡ false → eqb b 95 ≡ x → label_byte b ≡ x
@@ -135,40 +135,40 @@ hyphen_byte b h = let e : b ≡ 45 = eqb-true b 45 h in rw e (refl, refl)
 step : (pre : List ℕ) (l : Label) (b : ℕ) → Kept pre l → eqb b dot ≡ false → Step pre l b
 step pre l b k nd = by_size (leb 63 l.size) refl
   where
-    by-underscore : leb 63 l.size ≡ false → length pre < 63 → eqb b 45 ≡ false → digit b ≡ false → letter b ≡ false → (x : Bool) → eqb b 95 ≡ x → Step pre l b
-    by-underscore f s h d a true u =
-        keeps _ (take-underscore l b nd f h d a u) (keep pre l b false false k s (byte_by b true h d a u) (λ z. h) h (rw d (and-false l.digits)))
-    by-underscore f s h d a false u =
-        breaks (take-other l b nd f h d a u)
+    by_underscore : leb 63 l.size ≡ false → length pre < 63 → eqb b 45 ≡ false → digit b ≡ false → letter b ≡ false → (x : Bool) → eqb b 95 ≡ x → Step pre l b
+    by_underscore f s h d a true u =
+        keeps _ (take_underscore l b nd f h d a u) (keep pre l b false false k s (byte_by b true h d a u) (λ z. h) h (rw d (and-false l.digits)))
+    by_underscore f s h d a false u =
+        breaks (take_other l b nd f h d a u)
         (λ m. bad_byte ((pre ++ (b ∷ [])) ++ m) (every_front label_byte (pre ++ (b ∷ [])) m (every_snoc label_byte pre b ∙ rw (byte_by b false h d a u) (and-false (every label_byte pre)))))
 
-    by-letter : leb 63 l.size ≡ false → length pre < 63 → eqb b 45 ≡ false → digit b ≡ false → (x : Bool) → letter b ≡ x → Step pre l b
-    by-letter f s h d true a =
-        keeps _ (take-letter l b nd f h d a) (keep pre l b false false k s (byte_letter b a) (λ z. h) h (rw d (and-false l.digits)))
-    by-letter f s h d false a = by-underscore f s h d a (eqb b 95) refl
+    by_letter : leb 63 l.size ≡ false → length pre < 63 → eqb b 45 ≡ false → digit b ≡ false → (x : Bool) → letter b ≡ x → Step pre l b
+    by_letter f s h d true a =
+        keeps _ (take_letter l b nd f h d a) (keep pre l b false false k s (byte_letter b a) (λ z. h) h (rw d (and-false l.digits)))
+    by_letter f s h d false a = by_underscore f s h d a (eqb b 95) refl
 
-    by-digit : leb 63 l.size ≡ false → length pre < 63 → eqb b 45 ≡ false → (x : Bool) → digit b ≡ x → Step pre l b
-    by-digit f s h true d =
-        keeps _ (take-digit l b nd f h d) (keep pre l b false l.digits k s (byte_digit b d) (λ z. h) h (rw d (and-true l.digits)))
-    by-digit f s h false d = by-letter f s h d (letter b) refl
+    by_digit : leb 63 l.size ≡ false → length pre < 63 → eqb b 45 ≡ false → (x : Bool) → digit b ≡ x → Step pre l b
+    by_digit f s h true d =
+        keeps _ (take_digit l b nd f h d) (keep pre l b false l.digits k s (byte_digit b d) (λ z. h) h (rw d (and-true l.digits)))
+    by_digit f s h false d = by_letter f s h d (letter b) refl
 
     by_place : leb 63 l.size ≡ false → length pre < 63 → eqb b 45 ≡ true → (x : Bool) → eqb l.size 0 ≡ x → Step pre l b
     by_place f s h true z =
-        breaks (take-lone l b nd f h z)
+        breaks (take_lone l b nd f h z)
         (λ m. bad_first ((pre ++ (b ∷ [])) ++ m) (lone_first pre b m (omega (arith, eqb-true l.size 0 z, k.size_is)) h))
     by_place f s h false z =
-        keeps _ (take-hyphen l b nd f h z)
+        keeps _ (take_hyphen l b nd f h z)
         (keep pre l b true false k s (hyphen_byte b h).0 (λ e. absurd (eqb-false l.size 0 z (omega (arith, k.size_is)))) h (rw (hyphen_byte b h).1 (and-false l.digits)))
 
-    by-hyphen : leb 63 l.size ≡ false → length pre < 63 → (x : Bool) → eqb b 45 ≡ x → Step pre l b
-    by-hyphen f s true h = by_place f s h (eqb l.size 0) refl
-    by-hyphen f s false h = by-digit f s h (digit b) refl
+    by_hyphen : leb 63 l.size ≡ false → length pre < 63 → (x : Bool) → eqb b 45 ≡ x → Step pre l b
+    by_hyphen f s true h = by_place f s h (eqb l.size 0) refl
+    by_hyphen f s false h = by_digit f s h (digit b) refl
 
     by_size : (x : Bool) → leb 63 l.size ≡ x → Step pre l b
     by_size true s =
         breaks (take_long l b nd s)
         (λ m. too_long ((pre ++ (b ∷ [])) ++ m) (omega (arith, length-append (pre ++ (b ∷ [])) m, one_more pre b, leb-true 63 l.size s, k.size_is)))
-    by_size false s = by-hyphen s (omega (arith, leb-false 63 l.size s, k.size_is)) (eqb b 45) refl
+    by_size false s = by_hyphen s (omega (arith, leb-false 63 l.size s, k.size_is)) (eqb b 45) refl
 
 -- ---- a text from a place on, with the label so far before it
 host_cons : (l m : List ℕ) (ms : Labels) → host_name (l ∷ (m ∷ ms)) ≡ (good_label l && host_name (m ∷ ms))
@@ -229,14 +229,14 @@ more_from : (b : ℕ) (bs pre : List ℕ) (l : Label) → Kept pre l → ((q : L
     → host_from (b ∷ bs) l ≡ host_name (joined pre (labels (b ∷ bs)))
 more_from b bs pre l k rest = go (eqb b dot) refl
   where
-    by-step : eqb b dot ≡ false → Step pre l b → host_from (b ∷ bs) l ≡ host_name (joined pre (labels (b ∷ bs)))
-    by-step e (keeps l' t k') = taken_next b bs l l' t ∙ rest (pre ++ (b ∷ [])) l' k' ∙ rw (labels_more b bs e, joined_longer)
-    by-step e (breaks t bad) = taken_bad b bs l t ∙ sym (rw (labels_more b bs e, joined_longer) (joined_bad (pre ++ (b ∷ [])) (labels bs) bad))
+    by_step : eqb b dot ≡ false → Step pre l b → host_from (b ∷ bs) l ≡ host_name (joined pre (labels (b ∷ bs)))
+    by_step e (keeps l' t k') = taken_next b bs l l' t ∙ rest (pre ++ (b ∷ [])) l' k' ∙ rw (labels_more b bs e, joined_longer)
+    by_step e (breaks t bad) = taken_bad b bs l t ∙ sym (rw (labels_more b bs e, joined_longer) (joined_bad (pre ++ (b ∷ [])) (labels bs) bad))
 
     go : (x : Bool) → eqb b dot ≡ x → host_from (b ∷ bs) l ≡ host_name (joined pre (labels (b ∷ bs)))
     go true e =
         dot_taken b bs l e ∙ rw (labels_dot b bs e, joined_dot pre bs, kept_whole pre l k, ← joined_none bs) (ap (λ (x : Bool). whole l && x) (rest [] fresh kept_none))
-    go false e = by-step e (step pre l b k e)
+    go false e = by_step e (step pre l b k e)
 
 host_from_lem : (bs pre : List ℕ) (l : Label) → Kept pre l → host_from bs l ≡ host_name (joined pre (labels bs))
 host_from_lem [] pre l k = last_label pre l k

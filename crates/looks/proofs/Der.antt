@@ -137,16 +137,16 @@ same_few s a b t c d =
 module _ {S R : Type 0} (to : ℕ) (done : ℕ → S → R) (step : ℕ → S → (ℕ → S → R) → R) where
   module _ (P : ℕ → R → Type 0) (ends : (at : ℕ) (s : S) → P at (done at s))
       (goes : (at : ℕ) (s : S) (k : ℕ → S → R) → at < to → ((a : ℕ) (x : S) → P a (k a x)) → P at (step at s k)) where
-    run-keeps : (fuel at : ℕ) (s : S) → P at (run to done step fuel at s)
+    run_keeps : (fuel at : ℕ) (s : S) → P at (run to done step fuel at s)
     unfolding run
-    run-keeps zero at s = ends at s
-    run-keeps (suc fuel) at s = by (ltb at to) refl (run-keeps fuel)
+    run_keeps zero at s = ends at s
+    run_keeps (suc fuel) at s = by (ltb at to) refl (run_keeps fuel)
       where
         by : (t : Bool) → ltb at to ≡ t → ((a : ℕ) (x : S) → P a (run to done step fuel a x)) → P at (cond t (step at s (run to done step fuel)) (done at s))
         by true e r = goes at s (run to done step fuel) (ltb-true at to e) r
         by false e r = ends at s
 
     -- what holds at the end of a walk, and of a step if it holds of what comes after it, holds of the walk
-    pub walk-keeps : (from : ℕ) (s : S) → P from (walk to done step from s)
+    pub walk_keeps : (from : ℕ) (s : S) → P from (walk to done step from s)
     unfolding walk
-    walk-keeps from s = run-keeps (to - from) from s
+    walk_keeps from s = run_keeps (to - from) from s

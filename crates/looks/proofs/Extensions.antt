@@ -20,7 +20,7 @@ use Rattle.extensions.specs.Model.{span, there, kind_of, slot_of, set_slot, none
 use Rattle.looks.specs.Der.{nothing, value_looks}
 use Rattle.looks.specs.Values.{bool_looks}
 use Rattle.looks.specs.Extensions.{kind_looks, extension_looks, content_looks, remembered_looks, taken_looks, gathered_looks, extensions_looks}
-use Rattle.looks.proofs.Der.{at_most, value_few, content_then, expect_then, walk-keeps}
+use Rattle.looks.proofs.Der.{at_most, value_few, content_then, expect_then, walk_keeps}
 use Rattle.looks.proofs.Values.{bool_few, bool_cost}
 
 kind_few : (s : List ℕ) (a b : ℕ) → kind_looks s a b ≤ b - a
@@ -102,7 +102,7 @@ taken_few s at to known strict k after =
 gathered_few : (s : List ℕ) (from to : ℕ) (strict : Bool) → 6 * gathered_looks s from to strict ≤ 7 * (to - from) + 6
 unfolding gathered_looks
 gathered_few s from to strict =
-    walk-keeps to (λ at known. 0) (λ at known. taken_looks s at to known strict) (λ at n. 6 * n ≤ 7 * (to - at) + 6)
+    walk_keeps to (λ at known. 0) (λ at known. taken_looks s at to known strict) (λ at n. 6 * n ≤ 7 * (to - at) + 6)
     (λ at known. omega arith) (λ at known k l after. taken_few s at to known strict k after) from none_known
 
 pub extensions_few : (s : List ℕ) (from to : ℕ) (strict : Bool) → 6 * extensions_looks s from to strict ≤ 7 * (to - from) + 6

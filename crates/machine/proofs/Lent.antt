@@ -26,7 +26,7 @@ use Rattle.entries.proofs.Spending.{enough, lacking}
 use Rattle.subtrees.specs.Noted.{Noted, lent}
 use Rattle.constraints.specs.Paths.{noted_of, cert_at, certs_at}
 use Rattle.subtrees.specs.Model.{on_read}
-use Rattle.constraints.specs.Model.{own_in, own, anchored_in, issuers_in, issuers as those-of, path_constraints_in, path_constraints}
+use Rattle.constraints.specs.Model.{own_in, own, anchored_in, issuers_in, issuers as those_of, path_constraints_in, path_constraints}
 use Rattle.dialogue.specs.Model.{Path, World}
 use Rattle.machine.specs.World.{meaning_of, is_bound, names_of, constrained_as, names_in, world_of, world_in, Judges}
 use Rattle.machine.proofs.Levels.{pre_push}
@@ -130,7 +130,7 @@ module _ (I : List (List ℕ)) (E : List ℕ) (a : ℕ) where
       by true e z = let y : ◌≡◌ {A = ℕ} 0 1 = cc in absurd (omega arith)
       by false e z = (e, z)
 
-  bare_clean : (p : List ℕ) → Bare p → those-of (map (certificate_of I E a) p) ≡ clean
+  bare_clean : (p : List ℕ) → Bare p → those_of (map (certificate_of I E a) p) ≡ clean
   unfolding issuers_in after
   bare_clean [] h = refl
   bare_clean (n ∷ []) h = refl

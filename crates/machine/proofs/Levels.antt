@@ -87,23 +87,23 @@ module _ (W : World) where
     unfolding each
     each_none deeper p m i h = ap (λ (n : ℕ). each W deeper p n i) h
 
-    pub level-done : W.candidates ≤ get_or next d 0 → remaining W path next d ≡ leave ∷ under W path next d
-    level-done h =
+    pub level_done : W.candidates ≤ get_or next d 0 → remaining W path next d ≡ leave ∷ under W path next d
+    level_done h =
         ap (λ (l : List Event). l ++ (leave ∷ under W path next d))
         (each_none (enter W (most_intermediates - d)) (pre path d) (W.candidates - get_or next d 0) (get_or next d 0) (omega arith))
 
-    pub under-bottom : d ≡ 0 → under W path next d ≡ []
+    pub under_bottom : d ≡ 0 → under W path next d ≡ []
     unfolding under
-    under-bottom h = ap (λ (n : ℕ). under W path next n) h
+    under_bottom h = ap (λ (n : ℕ). under W path next n) h
 
     -- ---- the next candidate at a level
     each_next : (deeper : Path → List Event) (p : Path) (m i : ℕ) → i < m → each W deeper p (m - i) i ≡ one deeper p i (W.verdict p i) ++ each W deeper p (m - suc i) (suc i)
     unfolding each
     each_next deeper p m i h = let e : m - i ≡ suc (m - suc i) = omega arith in ap (λ (n : ℕ). each W deeper p n i) e
 
-    pub level-next : (v : Verdict) → get_or next d 0 < W.candidates → d < length next → W.verdict (pre path d) (get_or next d 0) ≡ v
+    pub level_next : (v : Verdict) → get_or next d 0 < W.candidates → d < length next → W.verdict (pre path d) (get_or next d 0) ≡ v
         → remaining W path next d ≡ one (enter W (most_intermediates - d)) (pre path d) (get_or next d 0) v ++ remaining W path (set next d (get_or next d 0 + 1)) d
-    level-next v some l w =
+    level_next v some l w =
         let i = get_or next d 0 in
         let p = pre path d in
         let deeper = enter W (most_intermediates - d) in
@@ -118,10 +118,10 @@ module _ (W : World) where
         ∙ ap (λ (x : Verdict). one deeper p i x ++ remaining W path stepped d) w
 
     -- ---- a path that is extended
-    pub level-push : (i : ℕ) → d < most_intermediates → d + 1 < length path → d + 1 < length next → W.check (i ∷ pre path d) ≡ 0
+    pub level_push : (i : ℕ) → d < most_intermediates → d + 1 < length path → d + 1 < length next → W.check (i ∷ pre path d) ≡ 0
         → enter W (most_intermediates - d) (i ∷ pre path d) ++ remaining W path next d ≡ remaining W (set path (d + 1) i) (set next (d + 1) 0) (d + 1)
     unfolding under lower
-    level-push i room lp ln e =
+    level_push i room lp ln e =
         let longer = set path (d + 1) i in
         let fresh = set next (d + 1) 0 in
         let tp : get_or longer (d + 1) 0 ≡ i = get_or-set_same path (d + 1) i 0 lp in

@@ -22,8 +22,8 @@ use Rattle.dialogue.specs.Dialogue.{give}
 use Rattle.dialogue.specs.Work.{paid}
 use Rattle.machine.specs.Levels.{under}
 use Rattle.machine.specs.Machine.{left, here, onward, clear_tree, wrong_tree, place_of, key_at, cert_at, what_at, rest_at, more_tree, ask_tree, phase_tree, tree_of, still, phase_effort, effort, Stands, Kept, Pushed, Heard, Grew, One, ends, leaves, looks, pushes, following, stepped, noting, Moved, try_tree, extend_tree, extend_still}
-use Rattle.machine.proofs.Levels.{lower_step, enter_deep, enter_refused, level-done, under-bottom, under_step, level-next, level-push}
-use Rattle.machine.proofs.Steps.{now, unless_refused, paid_extension, run_extension, run_no_extension, Skips, through_skips, through_found, through-asks, through-no-signature, conclude-no-comparison, conclude-refused, conclude-offers}
+use Rattle.machine.proofs.Levels.{lower_step, enter_deep, enter_refused, level_done, under_bottom, under_step, level_next, level_push}
+use Rattle.machine.proofs.Steps.{now, unless_refused, paid_extension, run_extension, run_no_extension, Skips, through_skips, through_found, through_asks, through_no_signature, conclude_no_comparison, conclude_refused, conclude_offers}
 
 place_most : (s : State) → place_of s ≤ s.depth
 place_most s = by (ltb s.at s.depth) refl
@@ -39,21 +39,21 @@ module _ (W : World) where
 
     -- ---- an anchor is tried
     module _ (i : ℕ) where
-      pub try-out : s.signatures ≡ 0 → Heard W s (ended (Spent maximum_signature_checks_exceeded)) (try_tree W s i) (still W s)
+      pub try_out : s.signatures ≡ 0 → Heard W s (ended (Spent maximum_signature_checks_exceeded)) (try_tree W s i) (still W s)
       unfolding phase_tree phase_effort run staged
-      try-out h = record { same = sym (through-no-signature W _ _ i _ _ s.signatures h); deep = deep; most = omega arith; kept = record { path = refl; next = refl; depth = refl } }
+      try_out h = record { same = sym (through_no_signature W _ _ i _ _ s.signatures h); deep = deep; most = omega arith; kept = record { path = refl; next = refl; depth = refl } }
 
       abbrev asking : State
       asking = record { path = s.path; next = s.next; depth = s.depth; at = s.depth; list = 0; anchor = i; signatures = s.signatures - 1; extensions = s.extensions; comparisons = s.comparisons; best = s.best; phase = Ask }
 
-      pub try-asks : (s.signatures ≡ 0 → ⊥) → Heard W s asking (try_tree W s i) (still W s)
+      pub try_asks : (s.signatures ≡ 0 → ⊥) → Heard W s asking (try_tree W s i) (still W s)
       unfolding phase_tree phase_effort run staged
-      try-asks h =
+      try_asks h =
           let top : ltb s.depth s.depth ≡ false = le-ltb s.depth s.depth (omega arith) in
           record {
             same =
                 ap (λ (b : Bool). ask_tree W asking (cond b (get_or s.path (s.depth + 1) 0) i) (cond b s.depth s.depth) (of_certificate (get_or s.path (cond b s.depth s.depth) 0))) top
-                ∙ through-asks W _ _ i _ _ s.signatures h;
+                ∙ through_asks W _ _ i _ _ s.signatures h;
             deep = deep;
             most = omega arith;
             kept = record { path = refl; next = refl; depth = refl };
@@ -64,9 +64,9 @@ module _ (W : World) where
       abbrev rest : List Event
       rest = enter W (most_intermediates - s.depth) (i ∷ here s) ++ left W s
 
-      pub extend-out : s.extensions ≡ 0 → Grew W s (ended (Spent maximum_path_build_calls_exceeded)) i (extend_tree W s i) (extend_still W s i)
+      pub extend_out : s.extensions ≡ 0 → Grew W s (ended (Spent maximum_path_build_calls_exceeded)) i (extend_tree W s i) (extend_still W s i)
       unfolding phase_tree phase_effort
-      extend-out h = record { same = sym (run_no_extension W rest s.signatures s.extensions s.comparisons s.best h); deep = deep; most = omega arith; grew = inl (record { path = refl; next = refl; depth = refl }) }
+      extend_out h = record { same = sym (run_no_extension W rest s.signatures s.extensions s.comparisons s.best h); deep = deep; most = omega arith; grew = inl (record { path = refl; next = refl; depth = refl }) }
 
       module _ (pays : s.extensions ≡ 0 → ⊥) where
         abbrev failing : ℕ → State
@@ -89,19 +89,19 @@ module _ (W : World) where
               grew = inl (record { path = refl; next = refl; depth = refl });
             }
 
-        pub extend-deep : (b : ℕ) → b ≡ worse_of s.best maximum_path_depth_exceeded → s.depth ≡ most_intermediates → Grew W s (failing b) i (extend_tree W s i) (extend_still W s i)
-        extend-deep b e h = failed maximum_path_depth_exceeded b e (enter_deep W (most_intermediates - s.depth) (i ∷ here s) (omega arith))
+        pub extend_deep : (b : ℕ) → b ≡ worse_of s.best maximum_path_depth_exceeded → s.depth ≡ most_intermediates → Grew W s (failing b) i (extend_tree W s i) (extend_still W s i)
+        extend_deep b e h = failed maximum_path_depth_exceeded b e (enter_deep W (most_intermediates - s.depth) (i ∷ here s) (omega arith))
 
-        pub extend-refused : (x b : ℕ) → b ≡ worse_of s.best x → (s.depth ≡ most_intermediates → ⊥) → W.check (i ∷ here s) ≡ x → (x ≡ 0 → ⊥) → Grew W s (failing b) i (extend_tree W s i) (extend_still W s i)
-        extend-refused x b e h k z = failed x b e (enter_refused W (most_intermediates - s.depth) (i ∷ here s) x (omega arith) k z)
+        pub extend_refused : (x b : ℕ) → b ≡ worse_of s.best x → (s.depth ≡ most_intermediates → ⊥) → W.check (i ∷ here s) ≡ x → (x ≡ 0 → ⊥) → Grew W s (failing b) i (extend_tree W s i) (extend_still W s i)
+        extend_refused x b e h k z = failed x b e (enter_refused W (most_intermediates - s.depth) (i ∷ here s) x (omega arith) k z)
 
         abbrev pushed : State
         pushed = record { path = set s.path (s.depth + 1) i; next = set s.next (s.depth + 1) 0; depth = s.depth + 1; at = s.at; list = s.list; anchor = s.anchor; signatures = s.signatures; extensions = s.extensions - 1; comparisons = s.comparisons; best = s.best; phase = s.phase }
 
-        pub extend-goes : length s.path ≡ 7 → length s.next ≡ 7 → (s.depth ≡ most_intermediates → ⊥) → W.check (i ∷ here s) ≡ 0 → Grew W s pushed i (extend_tree W s i) (extend_still W s i)
+        pub extend_goes : length s.path ≡ 7 → length s.next ≡ 7 → (s.depth ≡ most_intermediates → ⊥) → W.check (i ∷ here s) ≡ 0 → Grew W s pushed i (extend_tree W s i) (extend_still W s i)
         unfolding phase_tree phase_effort
-        extend-goes lp ln room k =
-            let list : rest ≡ left W pushed = level-push W s.path s.next s.depth i (omega arith) (omega arith) (omega arith) k in
+        extend_goes lp ln room k =
+            let list : rest ≡ left W pushed = level_push W s.path s.next s.depth i (omega arith) (omega arith) (omega arith) k in
             let all : paid rest (s.extensions - 1) ≡ paid (left W pushed) (s.extensions - 1) = ap (λ (l : List Event). paid l (s.extensions - 1)) list in
             let mine : phase_effort W pushed s.phase ≡ paid (left W pushed) (s.extensions - 1) = ap (phase_effort W pushed) walks in
             record {
@@ -122,12 +122,12 @@ module _ (W : World) where
 
       module _ (none : W.candidates ≤ get_or s.next s.depth 0) where
         gone : left W s ≡ leave ∷ under W s.path s.next s.depth
-        gone = level-done W s.path s.next s.depth none
+        gone = level_done W s.path s.next s.depth none
 
         pub over : s.depth ≡ 0 → Moved W s (ended (Refused s.best))
         unfolding phase_tree phase_effort run paid
         over z =
-            let list : left W s ≡ leave ∷ [] = gone ∙ ap (λ (l : List Event). leave ∷ l) (under-bottom W s.path s.next s.depth z) in
+            let list : left W s ≡ leave ∷ [] = gone ∙ ap (λ (l : List Event). leave ∷ l) (under_bottom W s.path s.next s.depth z) in
             let all : still W s ≡ 1 = ap (λ (l : List Event). paid l s.extensions) list in
             record {
               same =
@@ -164,7 +164,7 @@ module _ (W : World) where
         i = following s
 
         ahead : (v : Verdict) → W.verdict (here s) i ≡ v → left W s ≡ one (enter W (most_intermediates - s.depth)) (here s) i v ++ left W (stepped s)
-        ahead v e = level-next W s.path s.next s.depth v some (omega arith) e
+        ahead v e = level_next W s.path s.next s.depth v some (omega arith) e
 
         moved : (r : State) (es : List Event) → left W s ≡ es → Stands W r (run W es s.signatures s.extensions s.comparisons s.best) (paid es s.extensions - 1)
             → 0 < paid es s.extensions → One W s r → Moved W s r
@@ -262,22 +262,22 @@ module _ (W : World) where
           abbrev exhausted : ℕ → State
           exhausted n = record { path = s.path; next = s.next; depth = s.depth; at = s.at; list = s.list; anchor = s.anchor; signatures = s.signatures; extensions = s.extensions; comparisons = n; best = s.best; phase = Spent maximum_name_constraint_comparisons_exceeded }
 
-          pub names-out : (n : ℕ) → s.comparisons < W.cost s.anchor (here s) → Heard W s (exhausted n) (give (tree_of W s) a) (effort W s)
+          pub names_out : (n : ℕ) → s.comparisons < W.cost s.anchor (here s) → Heard W s (exhausted n) (give (tree_of W s) a) (effort W s)
           unfolding phase_tree phase_effort
-          names-out n h = record { same = sym (conclude-no-comparison W _ s.anchor (here s) s.comparisons h) ∙ settled; deep = deep; most = omega arith; kept = record { path = refl; next = refl; depth = refl } }
+          names_out n h = record { same = sym (conclude_no_comparison W _ s.anchor (here s) s.comparisons h) ∙ settled; deep = deep; most = omega arith; kept = record { path = refl; next = refl; depth = refl } }
 
           module _ (q : ℕ) (cost : q ≡ s.comparisons - W.cost s.anchor (here s)) (fits : W.cost s.anchor (here s) ≤ s.comparisons) where
             abbrev misnamed : ℕ → State
             misnamed b = record { path = s.path; next = s.next; depth = s.depth; at = s.at; list = s.list; anchor = s.anchor; signatures = s.signatures; extensions = s.extensions; comparisons = q; best = b; phase = Walk }
 
-            pub names-refused : (y b : ℕ) → W.named s.anchor (here s) ≡ y → (y ≡ 0 → ⊥) → b ≡ worse_of s.best y → Heard W s (misnamed b) (give (tree_of W s) a) (effort W s)
+            pub names_refused : (y b : ℕ) → W.named s.anchor (here s) ≡ y → (y ≡ 0 → ⊥) → b ≡ worse_of s.best y → Heard W s (misnamed b) (give (tree_of W s) a) (effort W s)
             unfolding phase_tree phase_effort
-            names-refused y b e z w =
+            names_refused y b e z w =
                 record {
                   same =
                       ap (λ (n : ℕ). onward W s s.signatures q n) w
                       ∙ ap (λ (m : ℕ). onward W s s.signatures m (worse_of s.best y)) cost
-                      ∙ sym (conclude-refused W (λ x n. onward W s s.signatures n (worse_of s.best x)) s.anchor (here s) s.comparisons y fits e z)
+                      ∙ sym (conclude_refused W (λ x n. onward W s s.signatures n (worse_of s.best x)) s.anchor (here s) s.comparisons y fits e z)
                       ∙ settled;
                   deep = deep;
                   most = omega (arith, its);
@@ -287,13 +287,13 @@ module _ (W : World) where
             abbrev offering : State
             offering = record { path = s.path; next = s.next; depth = s.depth; at = s.at; list = s.list; anchor = s.anchor; signatures = s.signatures; extensions = s.extensions; comparisons = q; best = s.best; phase = Offer }
 
-            pub names-clear : W.named s.anchor (here s) ≡ 0 → Heard W s offering (give (tree_of W s) a) (effort W s)
+            pub names_clear : W.named s.anchor (here s) ≡ 0 → Heard W s offering (give (tree_of W s) a) (effort W s)
             unfolding phase_tree phase_effort
-            names-clear e =
+            names_clear e =
                 record {
                   same =
                       ap (λ (m : ℕ). offer s.anchor (here s) (λ a. unless a (done (accepted s.anchor (here s))) (λ y. onward W s s.signatures m (worse_of s.best y)))) cost
-                      ∙ sym (conclude-offers W (λ x n. onward W s s.signatures n (worse_of s.best x)) s.anchor (here s) s.comparisons fits e)
+                      ∙ sym (conclude_offers W (λ x n. onward W s s.signatures n (worse_of s.best x)) s.anchor (here s) s.comparisons fits e)
                       ∙ settled;
                   deep = deep;
                   most = omega (arith, its);
@@ -305,50 +305,50 @@ module _ (W : World) where
           goes_on : through W (clear_tree W s) (wrong_tree W s) (question key what ∷ l) s.signatures ≡ give (tree_of W s) a
           goes_on = sym (through_skips W (clear_tree W s) (wrong_tree W s) s.signatures next') ∙ agreed
 
-          pub no-signature : s.signatures ≡ 0 → Heard W s (ended (Spent maximum_signature_checks_exceeded)) (give (tree_of W s) a) (effort W s)
+          pub no_signature : s.signatures ≡ 0 → Heard W s (ended (Spent maximum_signature_checks_exceeded)) (give (tree_of W s) a) (effort W s)
           unfolding phase_tree phase_effort
-          no-signature z =
-              record { same = sym (through-no-signature W (clear_tree W s) (wrong_tree W s) key what l s.signatures z) ∙ goes_on; deep = deep; most = omega arith; kept = record { path = refl; next = refl; depth = refl } }
+          no_signature z =
+              record { same = sym (through_no_signature W (clear_tree W s) (wrong_tree W s) key what l s.signatures z) ∙ goes_on; deep = deep; most = omega arith; kept = record { path = refl; next = refl; depth = refl } }
 
-        abbrev asking-at : ℕ → ℕ → State
-        asking-at m k = record { path = s.path; next = s.next; depth = s.depth; at = m; list = k; anchor = s.anchor; signatures = s.signatures - 1; extensions = s.extensions; comparisons = s.comparisons; best = s.best; phase = Ask }
+        abbrev asking_at : ℕ → ℕ → State
+        asking_at m k = record { path = s.path; next = s.next; depth = s.depth; at = m; list = k; anchor = s.anchor; signatures = s.signatures - 1; extensions = s.extensions; comparisons = s.comparisons; best = s.best; phase = Ask }
 
         -- a list is asked about, for the same certificate
-        pub asks-list : (k : ℕ) → Skips rest' (question (key_at s) (of_list (k - 1)) ∷ rest_at W s (key_at s) (place_of s) k) → (k ≡ 0 → ⊥) → (s.signatures ≡ 0 → ⊥)
-            → Heard W s (asking-at s.at k) (give (tree_of W s) a) (effort W s)
+        pub asks_list : (k : ℕ) → Skips rest' (question (key_at s) (of_list (k - 1)) ∷ rest_at W s (key_at s) (place_of s) k) → (k ≡ 0 → ⊥) → (s.signatures ≡ 0 → ⊥)
+            → Heard W s (asking_at s.at k) (give (tree_of W s) a) (effort W s)
         unfolding phase_tree phase_effort
-        asks-list k h nz z =
+        asks_list k h nz z =
             let about : eqb k 0 ≡ false = ne_eqb k 0 nz in
             record {
               same =
-                  ap (λ (b : Bool). ask_tree W (asking-at s.at k) (key_at s) (place_of s) (cond b (of_certificate (cert_at s)) (of_list (k - 1)))) about
-                  ∙ through-asks W (clear_tree W s) (wrong_tree W s) (key_at s) (of_list (k - 1)) _ s.signatures z
+                  ap (λ (b : Bool). ask_tree W (asking_at s.at k) (key_at s) (place_of s) (cond b (of_certificate (cert_at s)) (of_list (k - 1)))) about
+                  ∙ through_asks W (clear_tree W s) (wrong_tree W s) (key_at s) (of_list (k - 1)) _ s.signatures z
                   ∙ goes_on _ _ _ h;
               deep = deep;
               most = omega (arith, its);
               kept = record { path = refl; next = refl; depth = refl };
             }
 
-        pub out-on : (place_of s ≡ 0 → ⊥) → Skips rest' (staged W (cert_at s) (lower s.path (place_of s))) → s.signatures ≡ 0 → Heard W s (ended (Spent maximum_signature_checks_exceeded)) (give (tree_of W s) a) (effort W s)
+        pub out_on : (place_of s ≡ 0 → ⊥) → Skips rest' (staged W (cert_at s) (lower s.path (place_of s))) → s.signatures ≡ 0 → Heard W s (ended (Spent maximum_signature_checks_exceeded)) (give (tree_of W s) a) (effort W s)
         unfolding staged
-        out-on more h z =
-            no-signature (cert_at s) (of_certificate (get_or s.path (place_of s - 1) 0)) _
+        out_on more h z =
+            no_signature (cert_at s) (of_certificate (get_or s.path (place_of s - 1) 0)) _
             (subst (λ (l : List Stage). Skips rest' l) (ap (staged W (cert_at s)) (lower_step s.path (place_of s) more)) h) z
 
         -- the certificate below is asked about, with this one's key
-        pub asks-on : (m : ℕ) → m ≡ place_of s - 1 → (place_of s ≡ 0 → ⊥) → Skips rest' (staged W (cert_at s) (lower s.path (place_of s))) → (s.signatures ≡ 0 → ⊥)
-            → Heard W s (asking-at m 0) (give (tree_of W s) a) (effort W s)
+        pub asks_on : (m : ℕ) → m ≡ place_of s - 1 → (place_of s ≡ 0 → ⊥) → Skips rest' (staged W (cert_at s) (lower s.path (place_of s))) → (s.signatures ≡ 0 → ⊥)
+            → Heard W s (asking_at m 0) (give (tree_of W s) a) (effort W s)
         unfolding phase_tree phase_effort staged
-        asks-on m e more h z =
+        asks_on m e more h z =
             let inside : ltb m s.depth ≡ true = lt-ltb m s.depth (omega (arith, place_most s)) in
             let up : m + 1 ≡ place_of s = omega arith in
             let list : staged W (cert_at s) (lower s.path (place_of s)) ≡ staged W (cert_at s) (pre s.path (place_of s - 1)) = ap (staged W (cert_at s)) (lower_step s.path (place_of s) more) in
             record {
               same =
-                  ap (λ (b : Bool). ask_tree W (asking-at m 0) (cond b (get_or s.path (m + 1) 0) s.anchor) (cond b m s.depth) (of_certificate (get_or s.path (cond b m s.depth) 0))) inside
-                  ∙ ap (λ (n : ℕ). ask_tree W (asking-at m 0) (get_or s.path n 0) m (of_certificate (get_or s.path m 0))) up
-                  ∙ ap (λ (n : ℕ). ask_tree W (asking-at m 0) (cert_at s) n (of_certificate (get_or s.path n 0))) e
-                  ∙ through-asks W (clear_tree W s) (wrong_tree W s) (cert_at s) _ _ s.signatures z
+                  ap (λ (b : Bool). ask_tree W (asking_at m 0) (cond b (get_or s.path (m + 1) 0) s.anchor) (cond b m s.depth) (of_certificate (get_or s.path (cond b m s.depth) 0))) inside
+                  ∙ ap (λ (n : ℕ). ask_tree W (asking_at m 0) (get_or s.path n 0) m (of_certificate (get_or s.path m 0))) up
+                  ∙ ap (λ (n : ℕ). ask_tree W (asking_at m 0) (cert_at s) n (of_certificate (get_or s.path n 0))) e
+                  ∙ through_asks W (clear_tree W s) (wrong_tree W s) (cert_at s) _ _ s.signatures z
                   ∙ goes_on _ _ _ (subst (λ (l : List Stage). Skips rest' l) list h);
               deep = deep;
               most = omega (arith, its);

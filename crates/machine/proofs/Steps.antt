@@ -44,9 +44,9 @@ module _ (W : World) where
   run_no_extension es s b n e h = ap (λ (i : ℕ). run W (extension ∷ es) s i n e) h
 
   module _ (go : ℕ → Tree) (stop : ℕ → ℕ → Tree) (key : ℕ) (what : What) (stages : List Stage) (s : ℕ) where
-    pub through-asks : (s ≡ 0 → ⊥) → ask key what (λ a. unless (W.reply key what a) (through W go stop stages (s - 1)) (λ x. stop x (s - 1))) ≡ through W go stop (question key what ∷ stages) s
+    pub through_asks : (s ≡ 0 → ⊥) → ask key what (λ a. unless (W.reply key what a) (through W go stop stages (s - 1)) (λ x. stop x (s - 1))) ≡ through W go stop (question key what ∷ stages) s
     unfolding through
-    through-asks h = by s h
+    through_asks h = by s h
       where
         by : (s : ℕ) → (s ≡ 0 → ⊥) → ask key what (λ a. unless (W.reply key what a) (through W go stop stages (s - 1)) (λ x. stop x (s - 1))) ≡ through W go stop (question key what ∷ stages) s
         by zero h = absurd (h refl)
@@ -54,21 +54,21 @@ module _ (W : World) where
             let e : suc s - 1 ≡ s = omega arith in
             ap (λ (n : ℕ). ask key what (λ a. unless (W.reply key what a) (through W go stop stages n) (λ x. stop x n))) e
 
-    pub through-no-signature : s ≡ 0 → through W go stop (question key what ∷ stages) s ≡ done (spent maximum_signature_checks_exceeded)
+    pub through_no_signature : s ≡ 0 → through W go stop (question key what ∷ stages) s ≡ done (spent maximum_signature_checks_exceeded)
     unfolding through
-    through-no-signature h = ap (λ (n : ℕ). through W go stop (question key what ∷ stages) n) h
+    through_no_signature h = ap (λ (n : ℕ). through W go stop (question key what ∷ stages) n) h
 
   module _ (stop : ℕ → ℕ → Tree) (anchor : ℕ) (path : Path) (n : ℕ) where
-    pub conclude-no-comparison : n < W.cost anchor path → conclude W stop anchor path n ≡ done (spent maximum_name_constraint_comparisons_exceeded)
+    pub conclude_no_comparison : n < W.cost anchor path → conclude W stop anchor path n ≡ done (spent maximum_name_constraint_comparisons_exceeded)
     unfolding conclude
-    conclude-no-comparison h = simp (lt-ltb n (W.cost anchor path) h)
+    conclude_no_comparison h = simp (lt-ltb n (W.cost anchor path) h)
 
-    pub conclude-refused : (x : ℕ) → W.cost anchor path ≤ n → W.named anchor path ≡ x → (x ≡ 0 → ⊥) → conclude W stop anchor path n ≡ stop x (n - W.cost anchor path)
+    pub conclude_refused : (x : ℕ) → W.cost anchor path ≤ n → W.named anchor path ≡ x → (x ≡ 0 → ⊥) → conclude W stop anchor path n ≡ stop x (n - W.cost anchor path)
     unfolding conclude
-    conclude-refused zero h e z = absurd (z refl)
-    conclude-refused (suc x) h e z = simp (le-ltb n (W.cost anchor path) h, e)
+    conclude_refused zero h e z = absurd (z refl)
+    conclude_refused (suc x) h e z = simp (le-ltb n (W.cost anchor path) h, e)
 
-    pub conclude-offers : W.cost anchor path ≤ n → W.named anchor path ≡ 0
+    pub conclude_offers : W.cost anchor path ≤ n → W.named anchor path ≡ 0
         → conclude W stop anchor path n ≡ offer anchor path (λ word. unless word (done (accepted anchor path)) (λ x. stop x (n - W.cost anchor path)))
     unfolding conclude
-    conclude-offers h e = simp (le-ltb n (W.cost anchor path) h, e)
+    conclude_offers h e = simp (le-ltb n (W.cost anchor path) h, e)

@@ -31,9 +31,9 @@ module _ (W : World) where
           most = omega (arith, all_events W end b);
         }
 
-    starts-refused : (x : ℕ) → W.check (end ∷ []) ≡ x → (x ≡ 0 → ⊥) → Stands W (begun_in end s b n (Refused (worse_of unknown_issuer x))) (search W end s b n) (suc W.candidates * suc b)
+    starts_refused : (x : ℕ) → W.check (end ∷ []) ≡ x → (x ≡ 0 → ⊥) → Stands W (begun_in end s b n (Refused (worse_of unknown_issuer x))) (search W end s b n) (suc W.candidates * suc b)
     unfolding search phase_tree phase_effort run
-    starts-refused x h z = record {
+    starts_refused x h z = record {
       same = ap (λ (l : List Event). run W l s b n unknown_issuer) (sym (events_refused W end x h z));
       deep = omega arith;
       most = omega arith;
@@ -45,7 +45,7 @@ module _ (W : World) where
       where
         by : (x : ℕ) → W.check (end ∷ []) ≡ x → Stands W (begun_in end s b n (first_phase x)) (search W end s b n) (suc W.candidates * suc b)
         by zero h = starts h
-        by (suc e) h = starts-refused (suc e) h (λ z. omega (arith, z))
+        by (suc e) h = starts_refused (suc e) h (λ z. omega (arith, z))
 
   -- ---- on and on
   pub ran_same : {s r : State} {said : List ℕ} {moves : ℕ} → Ran W s r said moves → tree_of W r ≡ follow (tree_of W s) said
@@ -92,12 +92,12 @@ module _ (W : World) where
         let k = g.ran (begun W end s b n) [] 0 begin in
         record { same = g.same ∙ (begins end s b n).same; deep = g.deep; halts = g.halts; moves = k.0; ran = k.1 }
 
-    pub started-refused : (x e : ℕ) → W.check (end ∷ []) ≡ x → (x ≡ 0 → ⊥) → e ≡ worse_of unknown_issuer x → Came W end s b n [] (begun_in end s b n (Refused e))
+    pub started_refused : (x e : ℕ) → W.check (end ∷ []) ≡ x → (x ≡ 0 → ⊥) → e ≡ worse_of unknown_issuer x → Came W end s b n [] (begun_in end s b n (Refused e))
     unfolding follow first_phase
-    started-refused zero e h z w = absurd (z refl)
-    started-refused (suc x) e h z w =
+    started_refused zero e h z w = absurd (z refl)
+    started_refused (suc x) e h z w =
         rw w record {
-          same = (starts-refused end s b n (suc x) h z).same;
+          same = (starts_refused end s b n (suc x) h z).same;
           deep = omega arith;
           halts = λ q. let y : ◌≡◌ {A = ℕ} 0 1 = cc in omega arith;
           moves = 0;
@@ -106,8 +106,8 @@ module _ (W : World) where
 
   -- ---- and the end
   module _ (end s b n : ℕ) (r : State) (said : List ℕ) (moves : ℕ) (ran : Ran W (begun W end s b n) r said moves) where
-    pub few-moves : moves + effort W r ≤ suc W.candidates * suc b
-    few-moves = omega (arith, (begins end s b n).most, ran_bound ran)
+    pub few_moves : moves + effort W r ≤ suc W.candidates * suc b
+    few_moves = omega (arith, (begins end s b n).most, ran_bound ran)
 
     pub decides : (q : Outcome) → tree_of W r ≡ done q → Decided W end s b n (talk (search W end s b n) said) q
     decides q h =

@@ -25,13 +25,13 @@ some n e = let h = eqb-false n 0 e in ⊎_elim (λ l. l) (λ l. absurd (h (omega
 
 pub year_kind : (y : ℕ) → YearKind y
 unfolding days_of_year leap_year
-year_kind y = by-100 (eqb (y % 100) 0) refl
+year_kind y = by_100 (eqb (y % 100) 0) refl
   where
-    by-400 : eqb (y % 100) 0 ≡ true → (b : Bool) → eqb (y % 400) 0 ≡ b → YearKind y
-    by-400 h true e =
+    by_400 : eqb (y % 100) 0 ≡ true → (b : Bool) → eqb (y % 400) 0 ≡ b → YearKind y
+    by_400 h true e =
         let k : y % 400 ≡ 0 = eqb-true _ _ e in
         four_hundredth (omega arith) (omega arith) k (rw (h, e))
-    by-400 h false e =
+    by_400 h false e =
         let k : y % 100 ≡ 0 = eqb-true _ _ h in
         hundredth (omega arith) k (some _ e) (rw (h, e))
 
@@ -39,9 +39,9 @@ year_kind y = by-100 (eqb (y % 100) 0) refl
     by_4 h true e = let k = some _ h in fourth (eqb-true _ _ e) k (omega arith) (rw (h, e))
     by_4 h false e = let k = some _ h in other (some _ e) k (omega arith) (rw (h, e))
 
-    by-100 : (b : Bool) → eqb (y % 100) 0 ≡ b → YearKind y
-    by-100 true e = by-400 e (eqb (y % 400) 0) refl
-    by-100 false e = by_4 e (eqb (y % 4) 0) refl
+    by_100 : (b : Bool) → eqb (y % 100) 0 ≡ b → YearKind y
+    by_100 true e = by_400 e (eqb (y % 400) 0) refl
+    by_100 false e = by_4 e (eqb (y % 4) 0) refl
 
 -- the days of the years from the year 1 to p
 unfoldable pub since_one : ℕ → ℕ

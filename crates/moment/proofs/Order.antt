@@ -99,7 +99,7 @@ same_date d e y m a o i s = go
 -- one of two dates is earlier, or they are the same
 pub compare : (d e : Date) → Earlier d e ⊎ ((d ≡ e) ⊎ Earlier e d)
 unfolding Earlier
-compare d e = by-year (trichotomy d.year e.year)
+compare d e = by_year (trichotomy d.year e.year)
   where
     Answer : Type 0
     Answer = Earlier d e ⊎ ((d ≡ e) ⊎ Earlier e d)
@@ -109,30 +109,30 @@ compare d e = by-year (trichotomy d.year e.year)
     at_second y m a o i (inr (inl s)) = inr (inl (same_date d e y m a o i s))
     at_second y m a o i (inr (inr s)) = inr (inr (inr (sym y, inr (sym m, inr (sym a, inr (sym o, inr (sym i, s)))))))
 
-    at-minute : d.year ≡ e.year → d.month ≡ e.month → d.day ≡ e.day → d.hour ≡ e.hour → (d.minute < e.minute) ⊎ ((d.minute ≡ e.minute) ⊎ (e.minute < d.minute)) → Answer
-    at-minute y m a o (inl i) = inl (inr (y, inr (m, inr (a, inr (o, inl i)))))
-    at-minute y m a o (inr (inl i)) = at_second y m a o i (trichotomy d.second e.second)
-    at-minute y m a o (inr (inr i)) = inr (inr (inr (sym y, inr (sym m, inr (sym a, inr (sym o, inl i))))))
+    at_minute : d.year ≡ e.year → d.month ≡ e.month → d.day ≡ e.day → d.hour ≡ e.hour → (d.minute < e.minute) ⊎ ((d.minute ≡ e.minute) ⊎ (e.minute < d.minute)) → Answer
+    at_minute y m a o (inl i) = inl (inr (y, inr (m, inr (a, inr (o, inl i)))))
+    at_minute y m a o (inr (inl i)) = at_second y m a o i (trichotomy d.second e.second)
+    at_minute y m a o (inr (inr i)) = inr (inr (inr (sym y, inr (sym m, inr (sym a, inr (sym o, inl i))))))
 
-    at-hour : d.year ≡ e.year → d.month ≡ e.month → d.day ≡ e.day → (d.hour < e.hour) ⊎ ((d.hour ≡ e.hour) ⊎ (e.hour < d.hour)) → Answer
-    at-hour y m a (inl o) = inl (inr (y, inr (m, inr (a, inl o))))
-    at-hour y m a (inr (inl o)) = at-minute y m a o (trichotomy d.minute e.minute)
-    at-hour y m a (inr (inr o)) = inr (inr (inr (sym y, inr (sym m, inr (sym a, inl o)))))
+    at_hour : d.year ≡ e.year → d.month ≡ e.month → d.day ≡ e.day → (d.hour < e.hour) ⊎ ((d.hour ≡ e.hour) ⊎ (e.hour < d.hour)) → Answer
+    at_hour y m a (inl o) = inl (inr (y, inr (m, inr (a, inl o))))
+    at_hour y m a (inr (inl o)) = at_minute y m a o (trichotomy d.minute e.minute)
+    at_hour y m a (inr (inr o)) = inr (inr (inr (sym y, inr (sym m, inr (sym a, inl o)))))
 
-    at-day : d.year ≡ e.year → d.month ≡ e.month → (d.day < e.day) ⊎ ((d.day ≡ e.day) ⊎ (e.day < d.day)) → Answer
-    at-day y m (inl a) = inl (inr (y, inr (m, inl a)))
-    at-day y m (inr (inl a)) = at-hour y m a (trichotomy d.hour e.hour)
-    at-day y m (inr (inr a)) = inr (inr (inr (sym y, inr (sym m, inl a))))
+    at_day : d.year ≡ e.year → d.month ≡ e.month → (d.day < e.day) ⊎ ((d.day ≡ e.day) ⊎ (e.day < d.day)) → Answer
+    at_day y m (inl a) = inl (inr (y, inr (m, inl a)))
+    at_day y m (inr (inl a)) = at_hour y m a (trichotomy d.hour e.hour)
+    at_day y m (inr (inr a)) = inr (inr (inr (sym y, inr (sym m, inl a))))
 
-    at-month : d.year ≡ e.year → (d.month < e.month) ⊎ ((d.month ≡ e.month) ⊎ (e.month < d.month)) → Answer
-    at-month y (inl m) = inl (inr (y, inl m))
-    at-month y (inr (inl m)) = at-day y m (trichotomy d.day e.day)
-    at-month y (inr (inr m)) = inr (inr (inr (sym y, inl m)))
+    at_month : d.year ≡ e.year → (d.month < e.month) ⊎ ((d.month ≡ e.month) ⊎ (e.month < d.month)) → Answer
+    at_month y (inl m) = inl (inr (y, inl m))
+    at_month y (inr (inl m)) = at_day y m (trichotomy d.day e.day)
+    at_month y (inr (inr m)) = inr (inr (inr (sym y, inl m)))
 
-    by-year : (d.year < e.year) ⊎ ((d.year ≡ e.year) ⊎ (e.year < d.year)) → Answer
-    by-year (inl y) = inl (inl y)
-    by-year (inr (inl y)) = at-month y (trichotomy d.month e.month)
-    by-year (inr (inr y)) = inr (inr (inl y))
+    by_year : (d.year < e.year) ⊎ ((d.year ≡ e.year) ⊎ (e.year < d.year)) → Answer
+    by_year (inl y) = inl (inl y)
+    by_year (inr (inl y)) = at_month y (trichotomy d.month e.month)
+    by_year (inr (inr y)) = inr (inr (inl y))
 
 -- and an earlier moment is an earlier date
 pub less_is_earlier : (d e : Date) → Real d → Real e → 1970 ≤ d.year → 1970 ≤ e.year → seconds_to d < seconds_to e → Earlier d e

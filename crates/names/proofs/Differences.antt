@@ -20,7 +20,7 @@ use Rattle.names.specs.Conforming.{directory_name, preferred, ConformingName}
 use Rattle.names.specs.Model.{good_for_dns}
 use Rattle.der.proofs.Parts.{part_whole}
 use Rattle.names.proofs.Once.{names_once}
-use Rattle.names.proofs.Wanted.{dns-good}
+use Rattle.names.proofs.Wanted.{dns_good}
 
 bytes_of : (s : List ℕ) → every (λ b. ltb b 256) s ≡ true → Bytes s
 unfolding every
@@ -64,7 +64,7 @@ weaker : (k : ℕ) (c bytes : List ℕ) → bytes ≡ encoded (names k c) → ev
 unfolding Each encoded
 weaker k c bytes e b n broken =
     record {
-      good = (dns-good wanted is_wanted_lem bytes (bytes_of bytes b) 0 (length bytes) (omega arith) (omega arith)).1
+      good = (dns_good wanted is_wanted_lem bytes (bytes_of bytes b) 0 (length bytes) (omega arith) (omega arith)).1
           (record {
             before = named k c ∷ [];
             name = named dns_name wanted;

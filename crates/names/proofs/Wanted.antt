@@ -231,13 +231,13 @@ module _ (wanted : List ℕ) (v : wanted_name wanted ≡ true) where
 
   module _ (s : List ℕ) (b : Bytes s) (from to : ℕ) (ordered : from ≤ to) (within : to ≤ length s) where
     -- good if and only if a well-formed name before the first broken one matches
-    pub dns-good : (good_for_dns s from to wanted ≡ Good) ↔ Reached (ForDns wanted) (part s from to)
-    dns-good = rw (dns_is s from to) (good_exact s b from to ordered within 130 wanted (ForDns wanted) dns_sound dns_complete)
+    pub dns_good : (good_for_dns s from to wanted ≡ Good) ↔ Reached (ForDns wanted) (part s from to)
+    dns_good = rw (dns_is s from to) (good_exact s b from to ordered within 130 wanted (ForDns wanted) dns_sound dns_complete)
 
     -- refused: none matches, and the names were read to their end, or to the first broken one
-    pub dns-refused : (e : ℕ) → good_for_dns s from to wanted ≡ Refused e
+    pub dns_refused : (e : ℕ) → good_for_dns s from to wanted ≡ Refused e
         → ((e ≡ cert_not_valid_for_name) × Passed (ForDns wanted) (part s from to)) ⊎ ((e ≡ bad_der) × BrokenOff (ForDns wanted) (part s from to))
-    dns-refused e h = refused_exact s b from to ordered within 130 wanted (ForDns wanted) dns_sound dns_complete e (sym (dns_is s from to) ∙ h)
+    dns_refused e h = refused_exact s b from to ordered within 130 wanted (ForDns wanted) dns_sound dns_complete e (sym (dns_is s from to) ∙ h)
 
 -- a text that is no name is not looked for
 pub dns_malformed : (s : List ℕ) (from to : ℕ) (wanted : List ℕ) → wanted_name wanted ≡ false → good_for_dns s from to wanted ≡ Refused malformed_dns_identifier
@@ -268,11 +268,11 @@ module _ (wanted : List ℕ) where
   ip_complete n f = fits_ip n.kind n.content wanted f.kind_is ∙ address_complete n.content wanted f.size f.is
 
   module _ (s : List ℕ) (b : Bytes s) (from to : ℕ) (ordered : from ≤ to) (within : to ≤ length s) where
-    pub ip-good : (good_for_ip s from to wanted ≡ Good) ↔ Reached (ForIp wanted) (part s from to)
+    pub ip_good : (good_for_ip s from to wanted ≡ Good) ↔ Reached (ForIp wanted) (part s from to)
     unfolding good_for_ip
-    ip-good = good_exact s b from to ordered within 135 wanted (ForIp wanted) ip_sound ip_complete
+    ip_good = good_exact s b from to ordered within 135 wanted (ForIp wanted) ip_sound ip_complete
 
-    pub ip-refused : (e : ℕ) → good_for_ip s from to wanted ≡ Refused e
+    pub ip_refused : (e : ℕ) → good_for_ip s from to wanted ≡ Refused e
         → ((e ≡ cert_not_valid_for_name) × Passed (ForIp wanted) (part s from to)) ⊎ ((e ≡ bad_der) × BrokenOff (ForIp wanted) (part s from to))
     unfolding good_for_ip
-    ip-refused e h = refused_exact s b from to ordered within 135 wanted (ForIp wanted) ip_sound ip_complete e h
+    ip_refused e h = refused_exact s b from to ordered within 135 wanted (ForIp wanted) ip_sound ip_complete e h

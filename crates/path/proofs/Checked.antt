@@ -103,10 +103,10 @@ module _ (issuers : List (List ℕ)) (end : List ℕ) (anchors : ℕ) (distruste
       simp (ne_eqb (suc (length ns)) 0 (λ q. omega arith), e)
 
   module _ (path : List ℕ) (b : Bytes (certificate_of issuers end anchors (newest path))) where
-    pub path-check-sound : check_on issuers end anchors distrusted time wanted demanded path ≡ 0
+    pub path_check_sound : check_on issuers end anchors distrusted time wanted demanded path ≡ 0
         → (o : Contents) × IsCertificate (certificate_of issuers end anchors (newest path)) o × Fit distrusted time wanted demanded (role_of path) o
-    path-check-sound e = check_sound _ b distrusted time wanted demanded (role_of path) (sym (in_place path) ∙ e)
+    path_check_sound e = check_sound _ b distrusted time wanted demanded (role_of path) (sym (in_place path) ∙ e)
 
-    pub path-check-complete : (o : Contents) → IsCertificate (certificate_of issuers end anchors (newest path)) o → Fit distrusted time wanted demanded (role_of path) o
+    pub path_check_complete : (o : Contents) → IsCertificate (certificate_of issuers end anchors (newest path)) o → Fit distrusted time wanted demanded (role_of path) o
         → check_on issuers end anchors distrusted time wanted demanded path ≡ 0
-    path-check-complete o r f = in_place path ∙ check_complete _ b distrusted time wanted demanded (role_of path) o r f
+    path_check_complete o r f = in_place path ∙ check_complete _ b distrusted time wanted demanded (role_of path) o r f

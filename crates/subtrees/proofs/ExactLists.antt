@@ -270,8 +270,8 @@ module _ (s : List ℕ) (bytes : Bytes s) (lists : Subtrees) where
   pub record ListsRead : Type 0 where
     pub permitted_is : part s lists.permitted.start lists.permitted.end ≡ subtrees permitted_in
     pub excluded_is : part s lists.excluded.start lists.excluded.end ≡ subtrees excluded_in
-    pub permitted-named : Each Named permitted_in
-    pub excluded-named : Each Named excluded_in
+    pub permitted_named : Each Named permitted_in
+    pub excluded_named : Each Named excluded_in
 
   pub name_exact : (n : General) → Bytes n.content → (name s lists n.kind n.content).refusal ≡ 0 → ListsRead × Exactly permitted_in excluded_in n
   unfolding name
@@ -279,7 +279,7 @@ module _ (s : List ℕ) (bytes : Bytes s) (lists : Subtrees) where
       let b = both_pass _ _ z in
       let l = entries_pass s bytes lists.permitted.end false n.kind n.content lists.permitted.start b.first in
       let r = entries_pass s bytes lists.excluded.end true n.kind n.content lists.excluded.start b.second in (
-        record { permitted_is = l.is; excluded_is = r.is; permitted-named = l.named; excluded-named = r.named },
+        record { permitted_is = l.is; excluded_is = r.is; permitted_named = l.named; excluded_named = r.named },
         lists_exact n bn permitted_in excluded_in l.small r.small l.gone l.closes r.gone,
       )
 

@@ -1,7 +1,7 @@
 use mathlib.Core.Path.{sym, ◌∙◌}
 use Rattle.der.proofs.Loop.{start, turn, stop, finish}
 use Rattle.checks.specs.Model.{no_purpose, purpose_in}
-use Rattle.checks.proofs.Purposed.{step_later, step-next, step_found, step-refused}
+use Rattle.checks.proofs.Purposed.{step_later, step_next, step_found, step_refused}
 use native.Mathlib.Omega.{arith}
 use Rattle.checks.proofs.purpose_in.Goals as goal
 
@@ -30,12 +30,12 @@ pub loop-at-preserved : goal.loop-at-preserved
 loop-at-preserved c =
     let found = sym c.expect.ensures ∙ c.in-Content.is in
     let p = step_later _ _ _ _ found in
-    turn _ _ _ _ _ _ _ c.loop-at.invariant (omega arith) (omega arith) (step-next _ _ _ _ found (sym c.same.ensures ∙ c.if-same.false))
+    turn _ _ _ _ _ _ _ c.loop-at.invariant (omega arith) (omega arith) (step_next _ _ _ _ found (sym c.same.ensures ∙ c.if-same.false))
 
 pub returns-in-Refused : goal.returns-in-Refused
 returns-in-Refused c =
     let found = sym c.expect.ensures ∙ c.in-Refused.is in
-    stop _ _ _ _ _ _ c.loop-at.invariant (omega arith) (step-refused _ _ _ _ found)
+    stop _ _ _ _ _ _ c.loop-at.invariant (omega arith) (step_refused _ _ _ _ found)
 
 pub returns : goal.returns
 unfolding no_purpose

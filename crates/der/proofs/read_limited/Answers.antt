@@ -1,7 +1,7 @@
 use native.Mathlib.Omega.{arith}
 use mathlib.Core.Path.{sym, ◌∙◌}
 use borrow.Author.Tests.{le-ltb, lt-leb}
-use Rattle.der.proofs.Laws.{tests, limited-value, limited-long, limited-past, limited_bad}
+use Rattle.der.proofs.Laws.{tests, limited_value, limited_long, limited_past, limited_bad}
 use Rattle.der.proofs.Invert.{length_next}
 use Rattle.der.specs.Model.{read_limited, with_length}
 use Rattle.der.proofs.read_limited.Goals as goal
@@ -28,7 +28,7 @@ read_length-requires c = tt
 pub returns-then-limit-len : goal.returns-then-limit-len
 returns-then-limit-len c =
     sym
-    (limited-long _ _ _ _ _ _
+    (limited_long _ _ _ _ _ _
     c.if-s-to.false
     c.if-to-from.false
     (sym c.high_tag.ensures ∙ c.if-high_tag.false)
@@ -43,7 +43,7 @@ overflow_sub-to c =
 pub returns-then-to-next : goal.returns-then-to-next
 returns-then-to-next c =
     sym
-    (limited-past _ _ _ _ _ _
+    (limited_past _ _ _ _ _ _
     c.if-s-to.false
     c.if-to-from.false
     (sym c.high_tag.ensures ∙ c.if-high_tag.false)
@@ -59,7 +59,7 @@ overflow_add-result c =
 pub returns-else-to-next : goal.returns-else-to-next
 returns-else-to-next c =
     sym
-    (limited-value _ _ _ _ _ _
+    (limited_value _ _ _ _ _ _
     c.if-s-to.false
     c.if-to-from.false
     (sym c.high_tag.ensures ∙ c.if-high_tag.false)

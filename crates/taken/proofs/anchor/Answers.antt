@@ -1,9 +1,9 @@
 -- `taken::anchor` meets its contract. Assumes nothing.
-use Rattle.machine.proofs.Moves.{try-out, try-asks}
+use Rattle.machine.proofs.Moves.{try_out, try_asks}
 use Rattle.taken.proofs.anchor.Goals as goal
 
 pub returns-then-signatures-eq0 : goal.returns-then-signatures-eq0
-returns-then-signatures-eq0 c deep W = try-out W c.args.s deep c.args.i c.if-signatures-eq0.true
+returns-then-signatures-eq0 c deep W = try_out W c.args.s deep c.args.i c.if-signatures-eq0.true
 
 pub returns : goal.returns
-returns c deep W = try-asks W c.args.s deep c.args.i c.if-signatures-eq0.false
+returns c deep W = try_asks W c.args.s deep c.args.i c.if-signatures-eq0.false

@@ -17,7 +17,8 @@
 //     }
 #![tactic(auto)]
 
-ghost use Rattle.std.specs.Prelude.{◌≤◌, ◌≡◌, length, IfOk};
+ghost use Rattle.std.specs.Prelude.{◌≤◌, ◌≡◌, ◌<◌, length, take, IfOk};
+ghost use Rattle.std.specs.Io.KnownBytes.{Consumes, IsAtEnd};
 ghost use Rattle.hexlines.specs.Counts.{IsPrefixLen};
 
 use std::io;
@@ -37,9 +38,12 @@ pub fn line_buffer() -> [u8; 131072]
     [0; 131072]
 }
 
-// Reads until `buf` is full or the input ends, and answers how many bytes it put at the start of `buf`.
+// Reads until `buf` is full or the input ends, and answers how many bytes it put at the start of `buf`. Where
+// it is known what the reader has left, they are its next bytes. Nothing is said of an error.
 pub fn read_full<R: Read>(reader: &mut R, buf: &mut [u8]) -> io::Result<usize>
-    ensures { IfOk result (λ n. IsPrefixLen n buf.new) }
+    ensures in_bounds { IfOk result (λ n. IsPrefixLen n buf.new) }
+    ensures bytes { IfOk result (λ n. Consumes (R.remaining reader.old) (R.remaining reader.new) (take n buf.new)) }
+    ensures end { IfOk result (λ n. n < length buf.new → IsAtEnd (R.remaining reader.new)) }
 {
     let mut done = 0;
     while done < buf.len() {

@@ -5,14 +5,16 @@
 //     let mut text = hexlines::text_buffer();
 //     let mut out = hexlines::line_buffer();
 //     let size = hexlines::read_full(&mut rt.reader(), &mut text)?;
-//     show_all(&text[..size], &mut out)?;
+//     let mut to = BufWriter::new(rt.alloc(), io::writer(&rt))?;
+//     show_all(&mut to, &text[..size], &mut out)?;
+//     to.flush()
 //
 // and goes from line to line, with `length text - at` as the measure:
 //
 //     while at < text.len() {
 //         let end = hexlines::line_end(text, at);
 //         let count = hexlines::bytes(text, at, end, out);
-//         show(&out[..count])?;
+//         show(to, &out[..count])?;
 //         at = end + 1;
 //     }
 #![tactic(auto)]

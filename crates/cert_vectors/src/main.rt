@@ -11,122 +11,129 @@ use cert::key::Key;
 use cert::{Anchored, Reading, key};
 use der::Span;
 use extensions::{Known, Slot};
+use std::io;
+use std::io::{BufWriter, Write};
 
-fn put(text: &[u8]) {
-    io::write_all(1, text);
+fn put(to: &mut impl Write, text: &[u8]) -> io::Result<()> {
+    to.write_all(text)
 }
 
-fn refused(refusal: u16) {
+fn refused(to: &mut impl Write, refusal: u16) -> io::Result<()> {
     match refusal {
-        refusal::BAD_DER => put(b" BadDer"),
-        refusal::SIGNATURE_ALGORITHM_MISMATCH => put(b" SignatureAlgorithmMismatch"),
-        refusal::UNSUPPORTED_CERT_VERSION => put(b" UnsupportedCertVersion"),
-        refusal::UNSUPPORTED_CRITICAL_EXTENSION => put(b" UnsupportedCriticalExtension"),
-        refusal::EXTENSION_VALUE_INVALID => put(b" ExtensionValueInvalid"),
-        refusal::TRAILING_SIGNED_DATA => put(b" TrailingData(SignedData)"),
-        refusal::TRAILING_CERTIFICATE => put(b" TrailingData(Certificate)"),
+        refusal::BAD_DER => put(to, b" BadDer"),
+        refusal::SIGNATURE_ALGORITHM_MISMATCH => put(to, b" SignatureAlgorithmMismatch"),
+        refusal::UNSUPPORTED_CERT_VERSION => put(to, b" UnsupportedCertVersion"),
+        refusal::UNSUPPORTED_CRITICAL_EXTENSION => put(to, b" UnsupportedCriticalExtension"),
+        refusal::EXTENSION_VALUE_INVALID => put(to, b" ExtensionValueInvalid"),
+        refusal::TRAILING_SIGNED_DATA => put(to, b" TrailingData(SignedData)"),
+        refusal::TRAILING_CERTIFICATE => put(to, b" TrailingData(Certificate)"),
         refusal::TRAILING_CERTIFICATE_TBS_CERTIFICATE => {
-            put(b" TrailingData(CertificateTbsCertificate)")
+            put(to, b" TrailingData(CertificateTbsCertificate)")
         }
-        refusal::TRAILING_CERTIFICATE_EXTENSIONS => put(b" TrailingData(CertificateExtensions)"),
-        refusal::TRAILING_EXTENSION => put(b" TrailingData(Extension)"),
-        refusal::TRAILING_BIT_STRING => put(b" TrailingData(BitString)"),
-        refusal::TRAILING_BOOL => put(b" TrailingData(Bool)"),
-        refusal::TRAILING_SUBJECT_PUBLIC_KEY_INFO => put(b" TrailingData(SubjectPublicKeyInfo)"),
-        _ => put(b" ?"),
+        refusal::TRAILING_CERTIFICATE_EXTENSIONS => put(
+            to,
+            b" TrailingData(CertificateExtensions)",
+        ),
+        refusal::TRAILING_EXTENSION => put(to, b" TrailingData(Extension)"),
+        refusal::TRAILING_BIT_STRING => put(to, b" TrailingData(BitString)"),
+        refusal::TRAILING_BOOL => put(to, b" TrailingData(Bool)"),
+        refusal::TRAILING_SUBJECT_PUBLIC_KEY_INFO => put(
+            to,
+            b" TrailingData(SubjectPublicKeyInfo)",
+        ),
+        _ => put(to, b" ?"),
     }
 }
 
 // The letter of a refusal.
-fn letter(refusal: u16) {
+fn letter(to: &mut impl Write, refusal: u16) -> io::Result<()> {
     match refusal {
-        refusal::BAD_DER => put(b"D"),
-        refusal::SIGNATURE_ALGORITHM_MISMATCH => put(b"A"),
-        refusal::UNSUPPORTED_CERT_VERSION => put(b"V"),
-        refusal::UNSUPPORTED_CRITICAL_EXTENSION => put(b"U"),
-        refusal::EXTENSION_VALUE_INVALID => put(b"I"),
-        refusal::TRAILING_SIGNED_DATA => put(b"S"),
-        refusal::TRAILING_CERTIFICATE => put(b"C"),
-        refusal::TRAILING_CERTIFICATE_TBS_CERTIFICATE => put(b"T"),
-        refusal::TRAILING_CERTIFICATE_EXTENSIONS => put(b"X"),
-        refusal::TRAILING_EXTENSION => put(b"E"),
-        refusal::TRAILING_BIT_STRING => put(b"B"),
-        refusal::TRAILING_BOOL => put(b"L"),
-        _ => put(b"?"),
+        refusal::BAD_DER => put(to, b"D"),
+        refusal::SIGNATURE_ALGORITHM_MISMATCH => put(to, b"A"),
+        refusal::UNSUPPORTED_CERT_VERSION => put(to, b"V"),
+        refusal::UNSUPPORTED_CRITICAL_EXTENSION => put(to, b"U"),
+        refusal::EXTENSION_VALUE_INVALID => put(to, b"I"),
+        refusal::TRAILING_SIGNED_DATA => put(to, b"S"),
+        refusal::TRAILING_CERTIFICATE => put(to, b"C"),
+        refusal::TRAILING_CERTIFICATE_TBS_CERTIFICATE => put(to, b"T"),
+        refusal::TRAILING_CERTIFICATE_EXTENSIONS => put(to, b"X"),
+        refusal::TRAILING_EXTENSION => put(to, b"E"),
+        refusal::TRAILING_BIT_STRING => put(to, b"B"),
+        refusal::TRAILING_BOOL => put(to, b"L"),
+        _ => put(to, b"?"),
     }
 }
 
-fn span(p: Span) {
-    put(b" ");
-    io::print_decimal(1, p.start as u64);
-    put(b"-");
-    io::print_decimal(1, p.end as u64);
+fn span(to: &mut impl Write, p: Span) -> io::Result<()> {
+    write!(to, " {}-{}", p.start, p.end)
 }
 
-fn slot(x: Slot) {
+fn slot(to: &mut impl Write, x: Slot) -> io::Result<()> {
     if x.known {
-        span(Span {
-            start: x.start,
-            end: x.end,
-        });
-        return;
+        return span(
+            to,
+            Span {
+                start: x.start,
+                end: x.end,
+            },
+        );
     }
-    put(b" -");
+    put(to, b" -")
 }
 
-fn slots(k: Known) {
-    slot(k.key_usage);
-    slot(k.alternative_name);
-    slot(k.basic_constraints);
-    slot(k.name_constraints);
-    slot(k.distribution_points);
-    slot(k.key_purposes);
+fn slots(to: &mut impl Write, k: Known) -> io::Result<()> {
+    slot(to, k.key_usage)?;
+    slot(to, k.alternative_name)?;
+    slot(to, k.basic_constraints)?;
+    slot(to, k.name_constraints)?;
+    slot(to, k.distribution_points)?;
+    slot(to, k.key_purposes)
 }
 
-fn show(s: &[u8]) {
+fn show(to: &mut impl Write, s: &[u8]) -> io::Result<()> {
     match cert::read(s, true) {
         Reading::Accepted(c) => {
-            put(b"ok");
-            span(c.signed);
-            span(c.algorithm);
-            span(c.signature);
-            span(c.serial);
-            span(c.inner_algorithm);
-            span(c.issuer);
-            span(c.validity);
-            span(c.subject);
-            span(c.key);
-            slots(c.known);
+            put(to, b"ok")?;
+            span(to, c.signed)?;
+            span(to, c.algorithm)?;
+            span(to, c.signature)?;
+            span(to, c.serial)?;
+            span(to, c.inner_algorithm)?;
+            span(to, c.issuer)?;
+            span(to, c.validity)?;
+            span(to, c.subject)?;
+            span(to, c.key)?;
+            slots(to, c.known)?;
         }
-        Reading::Refused(e) => refused(e),
+        Reading::Refused(e) => refused(to, e)?,
     }
-    put(b" |");
+    put(to, b" |")?;
     match cert::anchor(s) {
         Anchored::Anchor {
             subject,
             key,
             constraints,
         } => {
-            put(b" ok");
-            span(subject);
-            span(key);
-            slot(constraints);
+            put(to, b" ok")?;
+            span(to, subject)?;
+            span(to, key)?;
+            slot(to, constraints)?;
         }
-        Anchored::Refused(e) => refused(e),
+        Anchored::Refused(e) => refused(to, e)?,
     }
-    put(b"\n");
+    put(to, b"\n")
 }
 
-fn show_key(s: &[u8]) {
+fn show_key(to: &mut impl Write, s: &[u8]) -> io::Result<()> {
     match key::parts(s, 0, s.len()) {
         Key::Parts { algorithm, bits } => {
-            put(b"ok");
-            span(algorithm);
-            span(bits);
+            put(to, b"ok")?;
+            span(to, algorithm)?;
+            span(to, bits)?;
         }
-        Key::Refused(e) => refused(e),
+        Key::Refused(e) => refused(to, e)?,
     }
-    put(b"\n");
+    put(to, b"\n")
 }
 
 // One digit more into a digit.
@@ -153,7 +160,7 @@ fn digit_of_slots(sum: u64, k: Known) -> u64 {
     mix_slot(e, k.key_purposes)
 }
 
-fn brief(s: &[u8]) {
+fn brief(to: &mut impl Write, s: &[u8]) -> io::Result<()> {
     match cert::read(s, true) {
         Reading::Accepted(x) => {
             let a = mix(0, x.signed);
@@ -165,13 +172,13 @@ fn brief(s: &[u8]) {
             let g = mix(f, x.validity);
             let h = mix(g, x.subject);
             let i = mix(h, x.key);
-            io::print_decimal(1, digit_of_slots(i, x.known));
+            write!(to, "{}", digit_of_slots(i, x.known))
         }
-        Reading::Refused(e) => letter(e),
+        Reading::Refused(e) => letter(to, e),
     }
 }
 
-fn brief_anchor(s: &[u8]) {
+fn brief_anchor(to: &mut impl Write, s: &[u8]) -> io::Result<()> {
     match cert::anchor(s) {
         Anchored::Anchor {
             subject,
@@ -180,85 +187,89 @@ fn brief_anchor(s: &[u8]) {
         } => {
             let a = mix(0, subject);
             let b = mix(a, key);
-            io::print_decimal(1, mix_slot(b, constraints));
+            write!(to, "{}", mix_slot(b, constraints))
         }
-        Anchored::Refused(e) => letter(e),
+        Anchored::Refused(e) => letter(to, e),
     }
 }
 
 // A character for the strict reader, and one for an anchor's.
-fn both(s: &[u8]) {
-    brief(s);
-    brief_anchor(s);
+fn both(to: &mut impl Write, s: &[u8]) -> io::Result<()> {
+    brief(to, s)?;
+    brief_anchor(to, s)
 }
 
 // Each bit of the byte at a place, flipped and flipped back.
-fn flip_byte(s: &mut [u8], at: usize) {
+fn flip_byte(to: &mut impl Write, s: &mut [u8], at: usize) -> io::Result<()> {
     if s.len() <= at {
-        return;
+        return Ok(());
     }
     let byte = s[at];
     let mut bit: u8 = 128;
     while 0 < bit {
         s[at] = byte ^ bit;
-        both(s);
+        both(to, s)?;
         bit = bit / 2;
     }
     s[at] = byte;
+    Ok(())
 }
 
-fn flips(s: &mut [u8]) {
+fn flips(to: &mut impl Write, s: &mut [u8]) -> io::Result<()> {
     let mut at = 0;
     while at < s.len() {
-        flip_byte(s, at);
+        flip_byte(to, s, at)?;
         at += 1;
     }
-    put(b"\n");
+    put(to, b"\n")
 }
 
-fn prefix(s: &[u8], n: usize) {
+fn prefix(to: &mut impl Write, s: &[u8], n: usize) -> io::Result<()> {
     if s.len() < n {
-        return;
+        return Ok(());
     }
-    both(&s[..n]);
+    both(to, &s[..n])
 }
 
-fn prefixes(s: &[u8]) {
+fn prefixes(to: &mut impl Write, s: &[u8]) -> io::Result<()> {
     let mut n = 0;
     while n < s.len() {
-        prefix(s, n);
+        prefix(to, s, n)?;
         n += 1;
     }
-    put(b"\n");
+    put(to, b"\n")
 }
 
-fn show_line(kind: u8, s: &mut [u8]) {
+fn show_line(to: &mut impl Write, kind: u8, s: &mut [u8]) -> io::Result<()> {
     match kind {
-        b'r' => show(s),
-        b'f' => flips(s),
-        b'p' => prefixes(s),
-        b'k' => show_key(s),
-        _ => put(b"?\n"),
+        b'r' => show(to, s),
+        b'f' => flips(to, s),
+        b'p' => prefixes(to, s),
+        b'k' => show_key(to, s),
+        _ => put(to, b"?\n"),
     }
 }
 
-fn show_all(text: &[u8], out: &mut [u8]) {
+fn show_all(to: &mut impl Write, text: &[u8], out: &mut [u8]) -> io::Result<()> {
     let mut at = 0;
     while at < text.len() {
         if text.len() - at < 2 {
-            return;
+            return Ok(());
         }
         let end = hexlines::line_end(text, at);
         let kind = text[at];
         let count = hexlines::padded(text, at + 2, end, out);
-        show_line(kind, &mut out[..count]);
+        show_line(to, kind, &mut out[..count])?;
         at = end + 1;
     }
+    Ok(())
 }
 
-fn main() {
+fn main(rt: HostRuntime) -> io::Result<()> {
     let mut text = hexlines::text_buffer();
     let mut out = hexlines::line_buffer();
-    let size = io::read_full(0, &mut text);
-    show_all(&text[..size], &mut out);
+    let size = hexlines::read_full(&mut rt.reader(), &mut text)?;
+    let mut to = BufWriter::new(rt.alloc(), io::writer(&rt))?;
+    show_all(&mut to, &text[..size], &mut out)?;
+    to.flush()
 }

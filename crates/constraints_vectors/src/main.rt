@@ -6,23 +6,27 @@
 // intermediates, from the one that issued the end entity up.
 #![tactic(auto)]
 
-fn put(text: &[u8]) {
-    io::write_all(1, text);
+use std::io;
+use std::io::{BufWriter, Write};
+
+fn put(to: &mut impl Write, text: &[u8]) -> io::Result<()> {
+    to.write_all(text)
 }
 
-fn said(refusal: u16) {
+fn said(to: &mut impl Write, refusal: u16) -> io::Result<()> {
     match refusal {
-        0 => put(b"ok"),
-        refusal::BAD_DER => put(b"BadDer"),
-        refusal::NAME_CONSTRAINT_VIOLATION => put(b"NameConstraintViolation"),
-        refusal::MALFORMED_DNS_IDENTIFIER => put(b"MalformedDnsIdentifier"),
-        refusal::MALFORMED_NAME_CONSTRAINT => put(b"MalformedNameConstraint"),
-        refusal::INVALID_NETWORK_MASK_CONSTRAINT => put(b"InvalidNetworkMaskConstraint"),
-        refusal::TRAILING_GENERAL_NAME => put(b"TrailingData(GeneralName)"),
+        0 => put(to, b"ok"),
+        refusal::BAD_DER => put(to, b"BadDer"),
+        refusal::NAME_CONSTRAINT_VIOLATION => put(to, b"NameConstraintViolation"),
+        refusal::MALFORMED_DNS_IDENTIFIER => put(to, b"MalformedDnsIdentifier"),
+        refusal::MALFORMED_NAME_CONSTRAINT => put(to, b"MalformedNameConstraint"),
+        refusal::INVALID_NETWORK_MASK_CONSTRAINT => put(to, b"InvalidNetworkMaskConstraint"),
+        refusal::TRAILING_GENERAL_NAME => put(to, b"TrailingData(GeneralName)"),
         refusal::MAXIMUM_NAME_CONSTRAINT_COMPARISONS_EXCEEDED => put(
+            to,
             b"MaximumNameConstraintComparisonsExceeded",
         ),
-        _ => put(b"another refusal"),
+        _ => put(to, b"another refusal"),
     }
 }
 
@@ -56,6 +60,7 @@ fn field(s: &[u8], at: usize, end: usize) -> &[u8] {
 }
 
 fn check<'a>(
+    to: &mut impl Write,
     left: u64,
     bound: bool,
     depth: usize,
@@ -67,22 +72,20 @@ fn check<'a>(
     i3: &'a [u8],
     i4: &'a [u8],
     i5: &'a [u8],
-) {
+) -> io::Result<()> {
     let issuers = [i0, i1, i2, i3, i4, i5];
     let path: [usize; 7] = [6, 0, 1, 2, 3, 4, 5];
     let table: [[usize; 37]; 0] = [];
     let spent = constraints::path_constraints(
         &table, &issuers, end, 0, path, depth, anchor, bound, left,
     );
-    said(spent.refusal);
-    put(b" ");
-    io::print_decimal(1, spent.left);
-    put(b"\n");
+    said(to, spent.refusal)?;
+    writeln!(to, " {}", spent.left)
 }
 
-fn show(s: &[u8]) {
+fn show(to: &mut impl Write, s: &[u8]) -> io::Result<()> {
     if s.len() < 5 {
-        return;
+        return Ok(());
     }
     let left = s[0] as u64 * 65536 + s[1] as u64 * 256 + s[2] as u64;
     let bound = s[3] == 1;
@@ -96,6 +99,7 @@ fn show(s: &[u8]) {
     let u = field_end(s, t);
     let v = field_end(s, u);
     check(
+        to,
         left,
         bound,
         depth,
@@ -107,22 +111,25 @@ fn show(s: &[u8]) {
         field(s, r, t),
         field(s, t, u),
         field(s, u, v),
-    );
+    )
 }
 
-fn show_all(text: &[u8], out: &mut [u8]) {
+fn show_all(to: &mut impl Write, text: &[u8], out: &mut [u8]) -> io::Result<()> {
     let mut at: usize = 0;
     while at < text.len() {
         let end = hexlines::line_end(text, at);
         let count = hexlines::bytes(text, at, end, out);
-        show(&out[..count]);
+        show(to, &out[..count])?;
         at = end + 1;
     }
+    Ok(())
 }
 
-fn main() {
+fn main(rt: HostRuntime) -> io::Result<()> {
     let mut text = hexlines::text_buffer();
     let mut out = hexlines::line_buffer();
-    let size = io::read_full(0, &mut text);
-    show_all(&text[..size], &mut out);
+    let size = hexlines::read_full(&mut rt.reader(), &mut text)?;
+    let mut to = BufWriter::new(rt.alloc(), io::writer(&rt))?;
+    show_all(&mut to, &text[..size], &mut out)?;
+    to.flush()
 }

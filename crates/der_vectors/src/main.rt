@@ -3,124 +3,129 @@
 
 use der::{Got, Read};
 use parts::Count;
+use std::io;
+use std::io::{BufWriter, Write};
 use values::{Small, Truth};
 
-fn put(text: &[u8]) {
-    io::write_all(1, text);
+fn put(to: &mut impl Write, text: &[u8]) -> io::Result<()> {
+    to.write_all(text)
 }
 
-fn number(n: usize) {
-    put(b" ");
-    io::print_decimal(1, n as u64);
+fn number(to: &mut impl Write, n: usize) -> io::Result<()> {
+    write!(to, " {n}")
 }
 
-fn refused(refusal: u16) {
+fn refused(to: &mut impl Write, refusal: u16) -> io::Result<()> {
     match refusal {
-        refusal::BAD_DER => put(b" BadDer"),
-        refusal::TRAILING_BOOL => put(b" TrailingData(Bool)"),
-        refusal::TRAILING_BIT_STRING => put(b" TrailingData(BitString)"),
-        _ => put(b" ?"),
+        refusal::BAD_DER => put(to, b" BadDer"),
+        refusal::TRAILING_BOOL => put(to, b" TrailingData(Bool)"),
+        refusal::TRAILING_BIT_STRING => put(to, b" TrailingData(BitString)"),
+        _ => put(to, b" ?"),
     }
 }
 
-fn got(answer: Got) {
+fn got(to: &mut impl Write, answer: Got) -> io::Result<()> {
     match answer {
         Got::Content(p) => {
-            number(p.start);
-            number(p.end);
+            number(to, p.start)?;
+            number(to, p.end)
         }
-        Got::Refused(e) => refused(e),
+        Got::Refused(e) => refused(to, e),
     }
 }
 
-fn value(s: &[u8]) {
+fn value(to: &mut impl Write, s: &[u8]) -> io::Result<()> {
     match der::read_value(s, 0, s.len()) {
         Read::Value { tag, start, end } => {
-            number(tag as usize);
-            number(start);
-            number(end);
+            number(to, tag as usize)?;
+            number(to, start)?;
+            number(to, end)
         }
-        Read::Refused => put(b" BadDer"),
+        Read::Refused => put(to, b" BadDer"),
     }
 }
 
-fn boolean(s: &[u8]) {
+fn boolean(to: &mut impl Write, s: &[u8]) -> io::Result<()> {
     match values::read_bool(s, 0, s.len()) {
         Truth::Is { value, next } => {
             if value {
-                put(b" true");
+                put(to, b" true")?;
             } else {
-                put(b" false");
+                put(to, b" false")?;
             }
-            number(next);
+            number(to, next)
         }
-        Truth::Refused(e) => refused(e),
+        Truth::Refused(e) => refused(to, e),
     }
 }
 
-fn one_byte(s: &[u8]) {
+fn one_byte(to: &mut impl Write, s: &[u8]) -> io::Result<()> {
     match values::read_small(s, 0, s.len()) {
         Small::Number { value, next } => {
-            number(value as usize);
-            number(next);
+            number(to, value as usize)?;
+            number(to, next)
         }
-        Small::Refused(e) => refused(e),
+        Small::Refused(e) => refused(to, e),
     }
 }
 
 // The flags of a content, by the numbers of those among the first sixteen that are set.
-fn flags(s: &[u8]) {
+fn flags(to: &mut impl Write, s: &[u8]) -> io::Result<()> {
     match bits::flags_in(s, 0, s.len()) {
         Got::Content(p) => {
             for k in 0..16 {
                 if bits::flag_at(s, p.start, p.end, k) {
-                    number(k);
+                    number(to, k)?;
                 }
             }
+            Ok(())
         }
-        Got::Refused(e) => refused(e),
+        Got::Refused(e) => refused(to, e),
     }
 }
 
-fn row(s: &[u8]) {
+fn row(to: &mut impl Write, s: &[u8]) -> io::Result<()> {
     match parts::count_values(s, 0, s.len()) {
-        Count::Values(n) => number(n),
-        Count::Broken => put(b" BadDer"),
+        Count::Values(n) => number(to, n),
+        Count::Broken => put(to, b" BadDer"),
     }
 }
 
-fn show(s: &[u8]) {
+fn show(to: &mut impl Write, s: &[u8]) -> io::Result<()> {
     let all = s.len();
-    put(b"value");
-    value(s);
-    put(b"; boolean");
-    boolean(s);
-    put(b"; byte");
-    one_byte(s);
-    put(b"; digits");
-    got(values::nonnegative_at(s, 0, all));
-    put(b"; bits");
-    got(bits::bits_at(s, 0, all));
-    put(b"; flags");
-    flags(s);
-    put(b"; row");
-    row(s);
-    put(b"\n");
+    put(to, b"value")?;
+    value(to, s)?;
+    put(to, b"; boolean")?;
+    boolean(to, s)?;
+    put(to, b"; byte")?;
+    one_byte(to, s)?;
+    put(to, b"; digits")?;
+    got(to, values::nonnegative_at(s, 0, all))?;
+    put(to, b"; bits")?;
+    got(to, bits::bits_at(s, 0, all))?;
+    put(to, b"; flags")?;
+    flags(to, s)?;
+    put(to, b"; row")?;
+    row(to, s)?;
+    put(to, b"\n")
 }
 
-fn show_all(text: &[u8], out: &mut [u8]) {
+fn show_all(to: &mut impl Write, text: &[u8], out: &mut [u8]) -> io::Result<()> {
     let mut at: usize = 0;
     while at < text.len() {
         let end = hexlines::line_end(text, at);
         let count = hexlines::padded(text, at, end, out);
-        show(&out[..count]);
+        show(to, &out[..count])?;
         at = end + 1;
     }
+    Ok(())
 }
 
-fn main() {
+fn main(rt: HostRuntime) -> io::Result<()> {
     let mut text = hexlines::text_buffer();
     let mut out = hexlines::line_buffer();
-    let size = io::read_full(0, &mut text);
-    show_all(&text[..size], &mut out);
+    let size = hexlines::read_full(&mut rt.reader(), &mut text)?;
+    let mut to = BufWriter::new(rt.alloc(), io::writer(&rt))?;
+    show_all(&mut to, &text[..size], &mut out)?;
+    to.flush()
 }

@@ -4,21 +4,27 @@
 //
 //     let mut text = hexlines::text_buffer();
 //     let mut out = hexlines::line_buffer();
-//     let size = io::read_full(0, &mut text);
-//     show_all(&text[..size], &mut out);
+//     let size = hexlines::read_full(&mut rt.reader(), &mut text)?;
+//     let mut to = BufWriter::new(rt.alloc(), io::writer(&rt))?;
+//     show_all(&mut to, &text[..size], &mut out)?;
+//     to.flush()
 //
 // and goes from line to line, with `length text - at` as the measure:
 //
 //     while at < text.len() {
 //         let end = hexlines::line_end(text, at);
 //         let count = hexlines::bytes(text, at, end, out);
-//         show(&out[..count]);
+//         show(to, &out[..count])?;
 //         at = end + 1;
 //     }
 #![tactic(auto)]
 
-ghost use Rattle.std.specs.Prelude.{◌≤◌, ◌≡◌, length};
-ghost use Rattle.io.specs.Counts.{IsPrefixLen};
+ghost use Rattle.std.specs.Prelude.{◌≤◌, ◌≡◌, ◌<◌, length, take, IfOk};
+ghost use Rattle.std.specs.Io.KnownBytes.{Consumes, IsAtEnd};
+ghost use Rattle.hexlines.specs.Counts.{IsPrefixLen};
+
+use std::io;
+use std::io::Read;
 
 // Zeros, for all of a program's input: at most 1,048,576 bytes of it are read.
 pub fn text_buffer() -> [u8; 1048576]
@@ -32,6 +38,24 @@ pub fn line_buffer() -> [u8; 131072]
     ensures { 131072 ≡ length result }
 {
     [0; 131072]
+}
+
+// Reads until `buf` is full or the input ends, and answers how many bytes it put at the start of `buf`. Where
+// it is known what the reader has left, they are its next bytes. Nothing is said of an error.
+pub fn read_full<R: Read>(reader: &mut R, buf: &mut [u8]) -> io::Result<usize>
+    ensures in_bounds { IfOk result (λ n. IsPrefixLen n buf.new) }
+    ensures bytes { IfOk result (λ n. Consumes (R.remaining reader.old) (R.remaining reader.new) (take n buf.new)) }
+    ensures end { IfOk result (λ n. n < length buf.new → IsAtEnd (R.remaining reader.new)) }
+{
+    let mut done = 0;
+    while done < buf.len() {
+        let n = reader.read(&mut buf[done..])?;
+        if n == 0 {
+            break;
+        }
+        done += n;
+    }
+    Ok(done)
 }
 
 // The place of the first line end at `at` or after it, or the length of the text.

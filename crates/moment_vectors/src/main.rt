@@ -3,47 +3,51 @@
 #![tactic(auto)]
 
 use moment::Time;
+use std::io;
+use std::io::{BufWriter, Write};
 
-fn show_refusal(e: u16) {
+fn put(to: &mut impl Write, text: &[u8]) -> io::Result<()> {
+    to.write_all(text)
+}
+
+fn show_refusal(to: &mut impl Write, e: u16) -> io::Result<()> {
     if e == refusal::BAD_DER_TIME {
-        io::write_all(1, b"BadDerTime");
-        return;
+        return put(to, b"BadDerTime");
     }
     if e == refusal::TRAILING_TIME {
-        io::write_all(1, b"TrailingData(Time)");
-        return;
+        return put(to, b"TrailingData(Time)");
     }
-    io::write_all(1, b"another refusal");
+    put(to, b"another refusal")
 }
 
-fn show(s: &[u8]) {
+fn show(to: &mut impl Write, s: &[u8]) -> io::Result<()> {
     match moment::time_at(s, 0, s.len()) {
         Time::At { seconds, next } => {
-            io::write_all(1, b"ok ");
-            io::print_decimal(1, seconds);
-            io::write_all(1, b" ");
-            io::print_decimal(1, next as u64);
+            write!(to, "ok {seconds} {next}")?;
         }
         Time::Refused(e) => {
-            show_refusal(e);
+            show_refusal(to, e)?;
         }
     }
-    io::write_all(1, b"\n");
+    put(to, b"\n")
 }
 
-fn show_all(text: &[u8], out: &mut [u8]) {
+fn show_all(to: &mut impl Write, text: &[u8], out: &mut [u8]) -> io::Result<()> {
     let mut at = 0;
     while at < text.len() {
         let end = hexlines::line_end(text, at);
         let count = hexlines::bytes(text, at, end, out);
-        show(&out[..count]);
+        show(to, &out[..count])?;
         at = end + 1;
     }
+    Ok(())
 }
 
-fn main() {
+fn main(rt: HostRuntime) -> io::Result<()> {
     let mut text = hexlines::text_buffer();
     let mut out = hexlines::line_buffer();
-    let size = io::read_full(0, &mut text);
-    show_all(&text[..size], &mut out);
+    let size = hexlines::read_full(&mut rt.reader(), &mut text)?;
+    let mut to = BufWriter::new(rt.alloc(), io::writer(&rt))?;
+    show_all(&mut to, &text[..size], &mut out)?;
+    to.flush()
 }

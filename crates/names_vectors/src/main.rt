@@ -5,132 +5,132 @@
 use dns::Answer;
 use names::general;
 use names::general::{Name, Verdict};
+use std::io;
+use std::io::{BufWriter, Write};
 
-fn put(text: &[u8]) {
-    io::write_all(1, text);
+fn put(to: &mut impl Write, text: &[u8]) -> io::Result<()> {
+    to.write_all(text)
 }
 
-fn number(n: usize) {
-    put(b" ");
-    io::print_decimal(1, n as u64);
+fn number(to: &mut impl Write, n: usize) -> io::Result<()> {
+    write!(to, " {n}")
 }
 
-fn refused(refusal: u16) {
+fn refused(to: &mut impl Write, refusal: u16) -> io::Result<()> {
     match refusal {
-        refusal::BAD_DER => put(b" BadDer"),
-        refusal::CERT_NOT_VALID_FOR_NAME => put(b" CertNotValidForName"),
-        refusal::MALFORMED_DNS_IDENTIFIER => put(b" MalformedDnsIdentifier"),
-        refusal::MALFORMED_NAME_CONSTRAINT => put(b" MalformedNameConstraint"),
-        refusal::INVALID_NETWORK_MASK_CONSTRAINT => put(b" InvalidNetworkMaskConstraint"),
-        _ => put(b" ?"),
+        refusal::BAD_DER => put(to, b" BadDer"),
+        refusal::CERT_NOT_VALID_FOR_NAME => put(to, b" CertNotValidForName"),
+        refusal::MALFORMED_DNS_IDENTIFIER => put(to, b" MalformedDnsIdentifier"),
+        refusal::MALFORMED_NAME_CONSTRAINT => put(to, b" MalformedNameConstraint"),
+        refusal::INVALID_NETWORK_MASK_CONSTRAINT => put(to, b" InvalidNetworkMaskConstraint"),
+        _ => put(to, b" ?"),
     }
 }
 
-fn truth(b: bool) {
-    if b {
-        put(b" yes");
-    } else {
-        put(b" no");
-    }
+fn truth(to: &mut impl Write, b: bool) -> io::Result<()> {
+    if b { put(to, b" yes") } else { put(to, b" no") }
 }
 
-fn answer(a: Answer) {
+fn answer(to: &mut impl Write, a: Answer) -> io::Result<()> {
     match a {
-        Answer::Yes => put(b" yes"),
-        Answer::No => put(b" no"),
-        Answer::Refused(e) => refused(e),
+        Answer::Yes => put(to, b" yes"),
+        Answer::No => put(to, b" no"),
+        Answer::Refused(e) => refused(to, e),
     }
 }
 
-fn verdict(v: Verdict) {
+fn verdict(to: &mut impl Write, v: Verdict) -> io::Result<()> {
     match v {
-        Verdict::Good => put(b" good"),
-        Verdict::Refused(e) => refused(e),
+        Verdict::Good => put(to, b" good"),
+        Verdict::Refused(e) => refused(to, e),
     }
 }
 
-fn name(n: Name) {
+fn name(to: &mut impl Write, n: Name) -> io::Result<()> {
     match n {
         Name::Found { kind, start, end } => {
-            number(kind as usize);
-            number(start);
-            number(end);
+            number(to, kind as usize)?;
+            number(to, start)?;
+            number(to, end)
         }
-        Name::Refused(e) => refused(e),
+        Name::Refused(e) => refused(to, e),
     }
 }
 
 // Question 0: is it a name, in each role.
-fn valid(h: &[u8]) {
-    put(b"presented");
-    truth(labels::valid_presented(h));
-    put(b"; wanted");
-    truth(labels::valid_wanted(h));
-    put(b"; entry");
-    truth(labels::valid_entry(h));
+fn valid(to: &mut impl Write, h: &[u8]) -> io::Result<()> {
+    put(to, b"presented")?;
+    truth(to, labels::valid_presented(h))?;
+    put(to, b"; wanted")?;
+    truth(to, labels::valid_wanted(h))?;
+    put(to, b"; entry")?;
+    truth(to, labels::valid_entry(h))
 }
 
 // Question 2: a presented name and an entry.
-fn entry(p: &[u8], q: &[u8]) {
-    put(b"permitted");
-    answer(dns::match_permitted(p, q));
-    put(b"; excluded");
-    answer(dns::match_excluded(p, q));
+fn entry(to: &mut impl Write, p: &[u8], q: &[u8]) -> io::Result<()> {
+    put(to, b"permitted")?;
+    answer(to, dns::match_permitted(p, q))?;
+    put(to, b"; excluded")?;
+    answer(to, dns::match_excluded(p, q))
 }
 
-fn ask(question: u8, a: &[u8], b: &[u8]) {
+fn ask(to: &mut impl Write, question: u8, a: &[u8], b: &[u8]) -> io::Result<()> {
     match question {
-        0 => valid(b),
+        0 => valid(to, b)?,
         1 => {
-            put(b"wanted");
-            answer(dns::match_wanted(a, b));
+            put(to, b"wanted")?;
+            answer(to, dns::match_wanted(a, b))?;
         }
-        2 => entry(a, b),
+        2 => entry(to, a, b)?,
         3 => {
-            put(b"subnet");
-            answer(ip::match_subnet(a, b));
+            put(to, b"subnet")?;
+            answer(to, ip::match_subnet(a, b))?;
         }
         4 => {
-            put(b"dns");
-            verdict(general::good_for_dns(b, 0, b.len(), a));
+            put(to, b"dns")?;
+            verdict(to, general::good_for_dns(b, 0, b.len(), a))?;
         }
         5 => {
-            put(b"ip");
-            verdict(general::good_for_ip(b, 0, b.len(), a));
+            put(to, b"ip")?;
+            verdict(to, general::good_for_ip(b, 0, b.len(), a))?;
         }
         6 => {
-            put(b"name");
-            name(general::general_name(b, 0, b.len()));
+            put(to, b"name")?;
+            name(to, general::general_name(b, 0, b.len()))?;
         }
-        _ => put(b"?"),
+        _ => put(to, b"?")?,
     }
-    put(b"\n");
+    put(to, b"\n")
 }
 
-fn show(s: &[u8]) {
+fn show(to: &mut impl Write, s: &[u8]) -> io::Result<()> {
     if s.len() < 2 {
-        return;
+        return Ok(());
     }
     let split = 2 + s[1] as usize;
     if s.len() < split {
-        return;
+        return Ok(());
     }
-    ask(s[0], &s[2..split], &s[split..]);
+    ask(to, s[0], &s[2..split], &s[split..])
 }
 
-fn show_all(text: &[u8], out: &mut [u8]) {
+fn show_all(to: &mut impl Write, text: &[u8], out: &mut [u8]) -> io::Result<()> {
     let mut at: usize = 0;
     while at < text.len() {
         let end = hexlines::line_end(text, at);
         let count = hexlines::bytes(text, at, end, out);
-        show(&out[..count]);
+        show(to, &out[..count])?;
         at = end + 1;
     }
+    Ok(())
 }
 
-fn main() {
+fn main(rt: HostRuntime) -> io::Result<()> {
     let mut text = hexlines::text_buffer();
     let mut out = hexlines::line_buffer();
-    let size = io::read_full(0, &mut text);
-    show_all(&text[..size], &mut out);
+    let size = hexlines::read_full(&mut rt.reader(), &mut text)?;
+    let mut to = BufWriter::new(rt.alloc(), io::writer(&rt))?;
+    show_all(&mut to, &text[..size], &mut out)?;
+    to.flush()
 }

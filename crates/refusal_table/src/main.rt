@@ -3,31 +3,32 @@
 
 ghost use Rattle.std.specs.Prelude.{◌≤◌, length};
 
-use libc::{STDIN_FILENO, STDOUT_FILENO};
+use std::io;
+use std::io::{BufWriter, Write};
 
-fn put(text: &[u8]) {
-    io::write_all(STDOUT_FILENO, text);
+fn put(to: &mut impl Write, text: &[u8]) -> io::Result<()> {
+    to.write_all(text)
 }
 
-fn put_number(n: u16) {
-    io::print_decimal(STDOUT_FILENO, n as u64);
+fn put_number(to: &mut impl Write, n: u16) -> io::Result<()> {
+    write!(to, "{n}")
 }
 
-fn row(refusal: u16, name: &[u8]) {
-    put(b"| ");
-    put_number(refusal);
-    put(b" | ");
-    put(name);
-    put(b" | ");
-    put_number(refusal::rank(refusal));
+fn row(to: &mut impl Write, refusal: u16, name: &[u8]) -> io::Result<()> {
+    put(to, b"| ")?;
+    put_number(to, refusal)?;
+    put(to, b" | ")?;
+    put(to, name)?;
+    put(to, b" | ")?;
+    put_number(to, refusal::rank(refusal))?;
     if refusal::fatal(refusal) {
-        put(b" | yes |\n");
+        put(to, b" | yes |\n")
     } else {
-        put(b" | no |\n");
+        put(to, b" | no |\n")
     }
 }
 
-fn rows(names: &[u8])
+fn rows(to: &mut impl Write, names: &[u8]) -> io::Result<()>
     requires { length names.now ≤ 4096 }
 {
     let mut number: u16 = 0;
@@ -36,16 +37,22 @@ fn rows(names: &[u8])
     while i < names.len() {
         if names[i] == b'\n' {
             number += 1;
-            row(number, &names[from..i]);
+            row(to, number, &names[from..i])?;
             from = i + 1;
         }
         i += 1;
     }
+    Ok(())
 }
 
-fn main() {
-    let mut names = io::buffer();
-    let count = io::read_full(STDIN_FILENO, &mut names);
-    put(b"| number | refusal | rank | ends the search |\n|---:|---|---:|---|\n");
-    rows(&names[..count]);
+fn main(rt: HostRuntime) -> io::Result<()> {
+    let mut names = [0; 4096];
+    let count = hexlines::read_full(&mut rt.reader(), &mut names)?;
+    let mut to = BufWriter::new(rt.alloc(), io::writer(&rt))?;
+    put(
+        &mut to,
+        b"| number | refusal | rank | ends the search |\n|---:|---|---:|---|\n",
+    )?;
+    rows(&mut to, &names[..count])?;
+    to.flush()
 }

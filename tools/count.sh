@@ -1,7 +1,7 @@
 #!/bin/sh
 # Lines that are neither blank nor comment, a Markdown row for each crate. Usage: tools/count.sh [NAME..]
 cd "$(dirname "$0")/.." || exit 2
-lines() { xargs -r cat | grep -cvE '^[[:space:]]*($|//|--)'; }
+lines() { xargs -r cat | grep -cvE '^[[:space:]]*($|//|--|#!)'; }
 [ $# -gt 0 ] || set -- $(LC_ALL=C ls crates)
 echo '| crate | code | standard | model | laws and theorems | function proofs |'
 echo '|---|---:|---:|---:|---:|---:|'

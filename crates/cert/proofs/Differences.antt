@@ -436,7 +436,7 @@ d13_unfinished =
     list_weaker _ _ (lit< tt) (and_then (unknown _ _ (numbers (λ n. same_list (128 ∷ []) (id_ce n) ≡ false) refl refl refl refl refl refl)) no_more) (tt, tt)
     (λ c. false_true c.extensions.each.0.identifier.series)
 
--- RFC 5280, 4.2.1.14: inhibit_any_policy that is not critical, 30 0a 06 03 55 1d 36 04 03 02 01 00
+-- RFC 5280, 4.2.1.14: inhibitAnyPolicy that is not critical, 30 0a 06 03 55 1d 36 04 03 02 01 00
 pub d45 : Weaker (extended name (one_of (id_ce 54) unwritten (2 ∷ 1 ∷ 0 ∷ []) ∷ []))
 unfolding listed Every Distinct same_list is_critical
 d45 =

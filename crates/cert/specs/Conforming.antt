@@ -38,7 +38,7 @@ pub data Name : List ℕ → Type 0 where
   none : {content : List ℕ} → content ≡ [] → Name content
   more : {content : List ℕ} (set rest : List ℕ) → content ≡ encoding 49 set ++ rest → Attributes set → Name rest → Name content
 
--- ---- 4.1.2.5: Validity ::= SEQUENCE { not_before Time, not_after Time }; a date through 2049 is written as UTCTime, a later one as GeneralizedTime; 4.1.2.5.1 and
+-- ---- 4.1.2.5: Validity ::= SEQUENCE { notBefore Time, notAfter Time }; a date through 2049 is written as UTCTime, a later one as GeneralizedTime; 4.1.2.5.1 and
 -- 4.1.2.5.2 say how (`text`). No date has a leap second here
 pub record Time (bytes : List ℕ) : Type 0 where
   pub kind : Kind

@@ -42,7 +42,7 @@ tbs_content k =
 unfoldable pub tbs_certificate : Skeleton → List ℕ
 tbs_certificate k = sequence (tbs_content k)
 
--- Certificate ::= SEQUENCE { tbs_certificate, signatureAlgorithm, signatureValue }; 4.1.1.2: both algorithms are the same
+-- Certificate ::= SEQUENCE { tbsCertificate, signatureAlgorithm, signatureValue }; 4.1.1.2: both algorithms are the same
 unfoldable pub certificate_content : Skeleton → List ℕ
 certificate_content k =
     tbs_certificate k ++ (sequence k.algorithm ++ bit_string k.signature)

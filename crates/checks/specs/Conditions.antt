@@ -5,7 +5,7 @@ use Rattle.der.specs.X690.{encoding, truth, Natural}
 use Rattle.der.specs.Places.{LIMIT}
 use Rattle.moment.specs.Calendar.{IsTime, utc, generalized}
 
--- ---- 4.1.2.5: Validity ::= SEQUENCE { not_before Time, not_after Time }; 6.1.3 (a) (2): it includes the time, and its ends belong to it. No
+-- ---- 4.1.2.5: Validity ::= SEQUENCE { notBefore Time, notAfter Time }; 6.1.3 (a) (2): it includes the time, and its ends belong to it. No
 -- time is before 1970 (stricter, D6); GeneralizedTime may write years before 2050, which 4.1.2.5 forbids to CAs
 -- Time ::= CHOICE { utcTime, generalTime }
 abbrev pub IsMoment : List ℕ → ℕ → Type 0
@@ -59,7 +59,7 @@ pub data Role : Type 0 where
   end_entity : Role
   issuer : ℕ → Role
 
--- 6.1.4 (l), (m), but self_issued intermediates count too (stricter, D30)
+-- 6.1.4 (l), (m), but self-issued intermediates count too (stricter, D30)
 abbrev pub Allows : Bound → ℕ → Type 0
 Allows unbounded below = Unit {0}
 Allows (at_most n) below = below ≤ n

@@ -12,7 +12,7 @@ use Rattle.conditions.specs.Conditions.{content_in, Each as EachOf}
 
 -- ---- whose constraints are over whom, for any rule on one certificate and the lists of permitted and excluded entries
 module _ (Rule : List General → List General → Contents → Type 0) where
-  -- name constraints of this content, and the certificates that they apply to; self_issued ones are no exception (stricter, D26)
+  -- name constraints of this content, and the certificates that they apply to; self-issued ones are no exception (stricter, D26)
   pub record Met (content : List ℕ) (below : List Contents) : Type 0 where
     pub permitted : List General
     pub excluded : List General

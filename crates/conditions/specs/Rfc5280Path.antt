@@ -96,7 +96,7 @@ MaySign absent = Unit {0}
 MaySign (present v) = (unused : ℕ) × (octets : List ℕ) × (v ≡ encoding 3 (unused ∷ octets)) × BitString unused octets × (bit octets 5 ≡ 1)
 
 module _ (W : World) where
-  -- 6.1: self_issued: subject and issuer are the same
+  -- 6.1: self-issued: subject and issuer are the same
   abbrev pub SelfIssued : Certificate → Type 0
   SelfIssued c = W.SameName c.contents.subject c.contents.issuer
 
@@ -121,7 +121,7 @@ module _ (W : World) where
     pub validity : InValidity c.contents.validity time
     pub not_revoked : W.NotRevoked c
     pub issuer : W.SameName s.working_issuer_name c.contents.issuer
-    -- (b), (c): skipped for a certificate that is self_issued and not the final one; and, since they need not be general names then, where nothing restricts
+    -- (b), (c): skipped for a certificate that is self-issued and not the final one; and, since they need not be general names then, where nothing restricts
     -- any name
     pub names : (final ≡ false → SelfIssued c → ⊥) → (s.permitted_subtrees ≡ [] → s.excluded_subtrees ≡ [] → ⊥) → NamesWithin s c.contents
 

@@ -8,7 +8,7 @@ use Rattle.checks.specs.Conditions.{Optional, Contents}
 use Rattle.conditions.specs.Conditions.{content_in}
 use Rattle.conditions.specs.Exactly.{Over, subject_name, ExactlyMet}
 
--- ---- 4.2.1.10: where there is no alternative name, an rfc822_name entry applies to an email_address in the subject
+-- ---- 4.2.1.10: where there is no alternative name, an rfc822Name entry applies to an emailAddress in the subject
 abbrev pub rfc822_name : ℕ
 rfc822_name = 129
 

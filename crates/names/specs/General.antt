@@ -10,8 +10,8 @@ dns_name = 130
 abbrev pub ip_address : ℕ
 ip_address = 135
 
--- the nine choices of a GeneralName by their tags: otherName, rfc822_name, dNSName, x400Address, directory_name, ediPartyName,
--- uniform_resource_identifier, iPAddress, registeredID
+-- the nine choices of a GeneralName by their tags: otherName, rfc822Name, dNSName, x400Address, directoryName, ediPartyName,
+-- uniformResourceIdentifier, iPAddress, registeredID
 unfoldable pub choices : List ℕ
 choices = 160 ∷ 129 ∷ dns_name ∷ 163 ∷ 164 ∷ 165 ∷ 134 ∷ ip_address ∷ 136 ∷ []
 

@@ -27,7 +27,7 @@ def stands(sign, text):
 
 
 unused = []
-for file in sorted(p for p in (top / 'crates').rglob('*') if p.suffix in ('.antt', '.rt')):
+for file in sorted(p for p in (top / 'crates').rglob('*') if p.suffix in ('.antt', '.rt') and 'out' not in p.parts):
     lines = file.read_text().splitlines()
     rest = '\n'.join(line for line in lines if not re.match(r'\s*(--|//)|(ghost )?use ', line))
     unused += [f'{file.relative_to(top)}: {name}' for line in lines for name in brought(line) if not mentioned(name, rest)]

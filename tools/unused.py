@@ -4,9 +4,9 @@
 import pathlib, re, sys
 
 top = pathlib.Path(__file__).resolve().parent.parent
-LIST = re.compile(r'^(?:ghost )?use [^{]*\.\{(.*)\};?$')        # use A.B.{c, d as e}
+LIST = re.compile(r'^(?:ghost )?use [^{]*(?:\.|::)\{(.*)\};?$')  # use A.B.{c, d as e} and use a::{B, C};
 ONE = re.compile(r'^(?:ghost )?use \S*?([^\s.:;]+)(?: as ([^\s;]+))?;?$')  # use a::B; and use A.B as c
-NAME = r"[\w·′-]"                                               # what can stand in a name, so that no part of a longer one counts
+NAME = r"[\w'-]"                                               # what can stand in a name, so that no part of a longer one counts
 
 
 def brought(line):
@@ -27,7 +27,10 @@ def stands(sign, text):
 
 
 unused = []
-for file in sorted(p for p in (top / 'crates').rglob('*') if p.suffix in ('.antt', '.rt') and 'out' not in p.parts):
+files = sorted(p for p in (top / 'crates').rglob('*') if p.suffix in ('.antt', '.rt') and 'out' not in p.relative_to(top).parts)
+if not files:
+    sys.exit('no file below crates/')
+for file in files:
     lines = file.read_text().splitlines()
     rest = '\n'.join(line for line in lines if not re.match(r'\s*(--|//)|(ghost )?use ', line))
     unused += [f'{file.relative_to(top)}: {name}' for line in lines for name in brought(line) if not mentioned(name, rest)]

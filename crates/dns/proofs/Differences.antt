@@ -20,7 +20,7 @@ below = 99 ∷ 46 ∷ name
 abbrev dotted : List ℕ
 dotted = 46 ∷ name
 
--- RFC 5280, 4.2.1.10: an entry is a name; RFC 1034, 3.5: each label of a name has one character or more. The text.a.b has an empty label, and the empty text
+-- RFC 5280, 4.2.1.10: an entry is a name; RFC 1034, 3.5: each label of a name has one character or more. The text .a.b has an empty label, and the empty text
 -- has no other. Both are taken as entries. Where .a.b is excluded, a.b passes and c.a.b does not; the empty text has every name
 pub d47_dot : (match_excluded name dotted ≡ No) × (match_excluded below dotted ≡ Yes) × (entry_name dotted ≡ true) × (host_name (labels dotted) ≡ false)
 unfolding match_excluded yes_if meets_subtree in_subtree same_text small valid_presented valid_entry

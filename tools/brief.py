@@ -19,7 +19,7 @@ def brief(lines):
     skip = False
     for line in lines:
         line = line.rstrip('\n')
-        if re.match(r'(note: |help: write|logic /|library |(enum|struct) .*: proved|\s*\(computed from:)', line):
+        if re.match(r'(note: |help: write|logic /|library |statements |crate \w+: modules |rt: chose |(enum|struct) .*: proved|\s*\(computed from:)', line):
             skip = True
         elif re.match(r'fn .*(: proved|: no holes)$', line):
             skip = False

@@ -139,7 +139,8 @@ fn issuer_verdict<'a>(
     outline: Outlined,
 ) -> Verdict
     requires { depth < 7 }
-    ensures { result ≡ issuer_verdict_in (readings_in table.now (map (λ x. x.now) issuers.now) end.now anchors) (map (λ x. x.now) issuers.now) end.now anchors (pre path depth) head.now issuer s.now outline }
+    ensures { result ≡ issuer_verdict_in (readings_in table.now (map (λ x. x.now) issuers.now) end.now anchors)
+        (map (λ x. x.now) issuers.now) end.now anchors (pre path depth) head.now issuer s.now outline }
 {
     match outline {
         Outlined::Is(c) => {
@@ -178,7 +179,9 @@ pub fn verdict_on<'a>(
     depth: usize,
     i: usize,
 ) -> Verdict
-    ensures { result ≡ verdict_in (readings_in table.now (map (λ x. x.now) issuers.now) end.now (length subjects.now)) (map (λ x. x.now) issuers.now) end.now (map (λ x. x.now) subjects.now) (map (λ x. x.now) keys.now) (map (λ x. x.now) constraints.now) bound.now (map (λ x. x.now) distrusted.now) (pre path depth) i }
+    ensures { result ≡ verdict_in (readings_in table.now (map (λ x. x.now) issuers.now) end.now (length subjects.now))
+        (map (λ x. x.now) issuers.now) end.now (map (λ x. x.now) subjects.now) (map (λ x. x.now) keys.now)
+        (map (λ x. x.now) constraints.now) bound.now (map (λ x. x.now) distrusted.now) (pre path depth) i }
 {
     if MOST_INTERMEDIATES < depth {
         return Verdict::Pass(refusal::MAXIMUM_PATH_DEPTH_EXCEEDED);

@@ -145,7 +145,8 @@ fn issuer<'a>(
     level: usize,
     left: u64,
 ) -> Spent
-    ensures { result ≡ spend left (own_in (cert_at table.now (map (λ x. x.now) issuers.now) end.now anchors n) (certs_at (cert_at table.now (map (λ x. x.now) issuers.now) end.now anchors) path level)) }
+    ensures { result ≡ spend left (own_in (cert_at table.now (map (λ x. x.now) issuers.now) end.now anchors n)
+        (certs_at (cert_at table.now (map (λ x. x.now) issuers.now) end.now anchors) path level)) }
 {
     let t = lent::certificate(issuers, end, anchors, n);
     let known = lent::reading(table, issuers, end, anchors, n);

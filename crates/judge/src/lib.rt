@@ -39,7 +39,11 @@ pub extern "C" fn pathjudge_begin<'a>(
     comparisons: u64,
     table: &'a mut [[usize; 37]],
 ) -> Step
-    ensures { Held table.new (map (λ x. x.now) issuers.now) end.now × Begun (request_of (map (λ x. x.now) issuers.now) end.now (map (λ x. x.now) subjects.now) (map (λ x. x.now) keys.now) (map (λ x. x.now) constraints.now) bound.now (map (λ x. x.now) distrusted.now) time purpose.now demanded kind name.now) (budgets_of signatures extensions comparisons) result }
+    ensures { Held table.new (map (λ x. x.now) issuers.now) end.now
+        × Begun (request_of (map (λ x. x.now) issuers.now) end.now (map (λ x. x.now) subjects.now)
+        (map (λ x. x.now) keys.now) (map (λ x. x.now) constraints.now) bound.now (map (λ x. x.now) distrusted.now)
+        time purpose.now demanded kind name.now)
+        (budgets_of signatures extensions comparisons) result }
 {
     table::fill(table, issuers, end);
     let i = issuers.len();
@@ -87,7 +91,11 @@ pub extern "C" fn pathjudge_answer<'a>(
     step: Step,
     answer: u16,
 ) -> Step
-    ensures { Held table.now (map (λ x. x.now) issuers.now) end.now → Answered (request_of (map (λ x. x.now) issuers.now) end.now (map (λ x. x.now) subjects.now) (map (λ x. x.now) keys.now) (map (λ x. x.now) constraints.now) bound.now (map (λ x. x.now) distrusted.now) time purpose.now demanded kind name.now) step answer result }
+    ensures { Held table.now (map (λ x. x.now) issuers.now) end.now
+        → Answered (request_of (map (λ x. x.now) issuers.now) end.now (map (λ x. x.now) subjects.now)
+        (map (λ x. x.now) keys.now) (map (λ x. x.now) constraints.now) bound.now (map (λ x. x.now) distrusted.now)
+        time purpose.now demanded kind name.now)
+        step answer result }
 {
     let s = search::answer(
         table,
@@ -128,7 +136,10 @@ pub extern "C" fn pathjudge_judge<'a>(
     table: &'a mut [[usize; 37]],
     answers: &'a [u16],
 ) -> Step
-    ensures { Run (request_of (map (λ x. x.now) issuers.now) end.now (map (λ x. x.now) subjects.now) (map (λ x. x.now) keys.now) (map (λ x. x.now) constraints.now) bound.now (map (λ x. x.now) distrusted.now) time purpose.now demanded kind name.now) (budgets_of signatures extensions comparisons) answers.now result }
+    ensures { Run (request_of (map (λ x. x.now) issuers.now) end.now (map (λ x. x.now) subjects.now)
+        (map (λ x. x.now) keys.now) (map (λ x. x.now) constraints.now) bound.now (map (λ x. x.now) distrusted.now)
+        time purpose.now demanded kind name.now)
+        (budgets_of signatures extensions comparisons) answers.now result }
 {
     table::fill(table, issuers, end);
     let count = issuers.len();
@@ -167,7 +178,10 @@ pub extern "C" fn pathjudge_question<'a>(
     table: &'a [[usize; 37]],
     step: Step,
 ) -> Asked
-    ensures { Held table.now (map (λ x. x.now) issuers.now) end.now → result ≡ asked_of (key_at (state_of step)) (cert_at (state_of step)) (question_of (map (λ x. x.now) issuers.now) end.now (map (λ x. x.now) keys.now) anchors (key_at (state_of step)) (cert_at (state_of step))) }
+    ensures { Held table.now (map (λ x. x.now) issuers.now) end.now
+        → result ≡ asked_of (key_at (state_of step)) (cert_at (state_of step))
+        (question_of (map (λ x. x.now) issuers.now) end.now (map (λ x. x.now) keys.now) anchors (key_at (state_of step))
+        (cert_at (state_of step))) }
 {
     let numbers = machine::asked(steps::state_of(step));
     told::question(

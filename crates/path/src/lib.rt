@@ -46,7 +46,9 @@ pub fn check<'a>(
     path: [usize; 7],
     depth: usize,
 ) -> u16
-    ensures { result ≡ check_in (readings_in table.now (map (λ x. x.now) issuers.now) end.now anchors) (map (λ x. x.now) issuers.now) end.now anchors (map (λ x. x.now) distrusted.now) time wanted.now demanded (pre path depth) }
+    ensures { result ≡ check_in (readings_in table.now (map (λ x. x.now) issuers.now) end.now anchors)
+        (map (λ x. x.now) issuers.now) end.now anchors (map (λ x. x.now) distrusted.now) time wanted.now demanded
+        (pre path depth) }
 {
     let n = lent::number_at(path, depth);
     let s = lent::certificate(issuers, end, anchors, n);

@@ -93,7 +93,9 @@ fn names<'a>(
     left: u64,
 ) -> Spent
     requires { depth < 7 }
-    ensures { result ≡ spend left (names_in (readings_in table.now (map (λ x. x.now) issuers.now) end.now anchors) (map (λ x. x.now) issuers.now) end.now anchors (map (λ x. x.now) constraints.now) bound.now anchor (pre numbers depth)) }
+    ensures { result ≡ spend left (names_in (readings_in table.now (map (λ x. x.now) issuers.now) end.now anchors)
+        (map (λ x. x.now) issuers.now) end.now anchors (map (λ x. x.now) constraints.now) bound.now anchor
+        (pre numbers depth)) }
 {
     if is_bound(constraints, bound, anchor) {
         let t = constraints[anchor];
@@ -120,7 +122,14 @@ fn settle<'a>(
     s: State,
 ) -> State
     requires { s.depth < 7 }
-    ensures { (W : World) (K : List (List ℕ)) → Judges W (readings_in table.now (map (λ x. x.now) issuers.now) end.now anchors) (map (λ x. x.now) issuers.now) end.now K (map (λ x. x.now) constraints.now) bound.now anchors → (a : ℕ) → s.phase ≡ Ask → W.reply (key_at s) (what_at s) a ≡ 0 → place_of s ≡ 0 → Heard W s result (give (tree_of W s) a) (effort W s) }
+    ensures { (W : World) (K : List (List ℕ))
+        → Judges W (readings_in table.now (map (λ x. x.now) issuers.now) end.now anchors) (map (λ x. x.now) issuers.now)
+        end.now K (map (λ x. x.now) constraints.now) bound.now anchors
+        → (a : ℕ)
+        → s.phase ≡ Ask
+        → W.reply (key_at s) (what_at s) a ≡ 0
+        → place_of s ≡ 0
+        → Heard W s result (give (tree_of W s) a) (effort W s) }
 {
     let numbers = s.path;
     let best = s.best;
@@ -163,7 +172,11 @@ fn settle<'a>(
 // A signature holds that is not the last: the next is asked for.
 fn ask_next(s: State, place: usize) -> State
     requires { (s.depth < 7) × (place ≡ place_of s) × (place ≡ 0 → ⊥) }
-    ensures { (W : World) (a : ℕ) → ((key what : ℕ) (below : Path) (k : ℕ) → W.after key what below k ≡ []) → s.phase ≡ Ask → W.reply (key_at s) (what_at s) a ≡ 0 → Heard W s result (give (tree_of W s) a) (effort W s) }
+    ensures { (W : World) (a : ℕ)
+        → ((key what : ℕ) (below : Path) (k : ℕ) → W.after key what below k ≡ [])
+        → s.phase ≡ Ask
+        → W.reply (key_at s) (what_at s) a ≡ 0
+        → Heard W s result (give (tree_of W s) a) (effort W s) }
 {
     let signatures = s.signatures;
     if signatures == 0 {
@@ -194,7 +207,10 @@ fn on_answer<'a>(
     answer: u16,
 ) -> State
     requires { (s.depth < 7) × (s.phase ≡ Ask) }
-    ensures { (W : World) → Judges W (readings_in table.now (map (λ x. x.now) issuers.now) end.now anchors) (map (λ x. x.now) issuers.now) end.now (map (λ x. x.now) keys.now) (map (λ x. x.now) constraints.now) bound.now anchors → Heard W s result (give (tree_of W s) answer) (effort W s) }
+    ensures { (W : World)
+        → Judges W (readings_in table.now (map (λ x. x.now) issuers.now) end.now anchors) (map (λ x. x.now) issuers.now)
+        end.now (map (λ x. x.now) keys.now) (map (λ x. x.now) constraints.now) bound.now anchors
+        → Heard W s result (give (tree_of W s) answer) (effort W s) }
 {
     let best = s.best;
     let q = machine::asked(s);
@@ -246,7 +262,12 @@ pub fn reply<'a>(
     s: State,
     answer: u16,
 ) -> State
-    ensures { s.depth < 7 → (s.phase ≡ Walk → ⊥) → (W : World) → Judges W (readings_in table.now (map (λ x. x.now) issuers.now) end.now anchors) (map (λ x. x.now) issuers.now) end.now (map (λ x. x.now) keys.now) (map (λ x. x.now) constraints.now) bound.now anchors → Heard W s result (give (tree_of W s) answer) (effort W s) }
+    ensures { s.depth < 7
+        → (s.phase ≡ Walk → ⊥)
+        → (W : World)
+        → Judges W (readings_in table.now (map (λ x. x.now) issuers.now) end.now anchors) (map (λ x. x.now) issuers.now)
+        end.now (map (λ x. x.now) keys.now) (map (λ x. x.now) constraints.now) bound.now anchors
+        → Heard W s result (give (tree_of W s) answer) (effort W s) }
 {
     if MOST_INTERMEDIATES < s.depth {
         return s;

@@ -26,7 +26,10 @@ pub fn run<'a>(
     comparisons: u64,
     answers: &[u16],
 ) -> State
-    ensures { Came (world_in (readings_in table.now (map (λ x. x.now) issuers.now) end.now (length subjects.now)) (map (λ x. x.now) issuers.now) end.now (map (λ x. x.now) subjects.now) (map (λ x. x.now) keys.now) (map (λ x. x.now) constraints.now) bound.now (map (λ x. x.now) distrusted.now) time wanted.now demanded) (length subjects.now + length issuers.now) signatures extensions comparisons answers.now result }
+    ensures { Came (world_in (readings_in table.now (map (λ x. x.now) issuers.now) end.now (length subjects.now))
+        (map (λ x. x.now) issuers.now) end.now (map (λ x. x.now) subjects.now) (map (λ x. x.now) keys.now)
+        (map (λ x. x.now) constraints.now) bound.now (map (λ x. x.now) distrusted.now) time wanted.now demanded)
+        (length subjects.now + length issuers.now) signatures extensions comparisons answers.now result }
 {
     let mut s = search::start(
         table,

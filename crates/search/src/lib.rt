@@ -28,7 +28,10 @@ pub fn answer<'a>(
     s: State,
     given: u16,
 ) -> State
-    ensures { Answered (world_in (readings_in table.now (map (λ x. x.now) issuers.now) end.now (length subjects.now)) (map (λ x. x.now) issuers.now) end.now (map (λ x. x.now) subjects.now) (map (λ x. x.now) keys.now) (map (λ x. x.now) constraints.now) bound.now (map (λ x. x.now) distrusted.now) time wanted.now demanded) s given result }
+    ensures { Answered (world_in (readings_in table.now (map (λ x. x.now) issuers.now) end.now (length subjects.now))
+        (map (λ x. x.now) issuers.now) end.now (map (λ x. x.now) subjects.now) (map (λ x. x.now) keys.now)
+        (map (λ x. x.now) constraints.now) bound.now (map (λ x. x.now) distrusted.now) time wanted.now demanded)
+        s given result }
 {
     if MOST_INTERMEDIATES < s.depth {
         return s;
@@ -85,7 +88,10 @@ pub fn start<'a>(
     extensions: u64,
     comparisons: u64,
 ) -> State
-    ensures { Came (world_in (readings_in table.now (map (λ x. x.now) issuers.now) end.now (length subjects.now)) (map (λ x. x.now) issuers.now) end.now (map (λ x. x.now) subjects.now) (map (λ x. x.now) keys.now) (map (λ x. x.now) constraints.now) bound.now (map (λ x. x.now) distrusted.now) time wanted.now demanded) (length subjects.now + length issuers.now) signatures extensions comparisons [] result }
+    ensures { Came (world_in (readings_in table.now (map (λ x. x.now) issuers.now) end.now (length subjects.now))
+        (map (λ x. x.now) issuers.now) end.now (map (λ x. x.now) subjects.now) (map (λ x. x.now) keys.now)
+        (map (λ x. x.now) constraints.now) bound.now (map (λ x. x.now) distrusted.now) time wanted.now demanded)
+        (length subjects.now + length issuers.now) signatures extensions comparisons [] result }
 {
     let anchors = subjects.len();
     let numbers = [anchors + issuers.len(), 0, 0, 0, 0, 0, 0];

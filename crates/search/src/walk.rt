@@ -53,7 +53,10 @@ fn move_on<'a>(
     s: State,
 ) -> State
     requires { (s.depth < 7) × (s.phase ≡ Walk) }
-    ensures { Moved (world_in (readings_in table.now (map (λ x. x.now) issuers.now) end.now (length subjects.now)) (map (λ x. x.now) issuers.now) end.now (map (λ x. x.now) subjects.now) (map (λ x. x.now) keys.now) (map (λ x. x.now) constraints.now) bound.now (map (λ x. x.now) distrusted.now) time wanted.now demanded) s result }
+    ensures { Moved (world_in (readings_in table.now (map (λ x. x.now) issuers.now) end.now (length subjects.now))
+        (map (λ x. x.now) issuers.now) end.now (map (λ x. x.now) subjects.now) (map (λ x. x.now) keys.now)
+        (map (λ x. x.now) constraints.now) bound.now (map (λ x. x.now) distrusted.now) time wanted.now demanded)
+        s result }
 {
     let depth = s.depth;
     let numbers = s.path;
@@ -102,7 +105,10 @@ pub fn advance<'a>(
     s: State,
 ) -> State
     requires { s.depth < 7 }
-    ensures { Halted (world_in (readings_in table.now (map (λ x. x.now) issuers.now) end.now (length subjects.now)) (map (λ x. x.now) issuers.now) end.now (map (λ x. x.now) subjects.now) (map (λ x. x.now) keys.now) (map (λ x. x.now) constraints.now) bound.now (map (λ x. x.now) distrusted.now) time wanted.now demanded) s result [] }
+    ensures { Halted (world_in (readings_in table.now (map (λ x. x.now) issuers.now) end.now (length subjects.now))
+        (map (λ x. x.now) issuers.now) end.now (map (λ x. x.now) subjects.now) (map (λ x. x.now) keys.now)
+        (map (λ x. x.now) constraints.now) bound.now (map (λ x. x.now) distrusted.now) time wanted.now demanded)
+        s result [] }
 {
     let mut t = s;
     loop {

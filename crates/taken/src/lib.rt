@@ -46,7 +46,12 @@ pub fn extend<'a>(
     s: State,
     i: usize,
 ) -> State
-    ensures { s.depth < 7 → s.phase ≡ Walk → (W : World) → ((p : Path) → W.check p ≡ check_in (readings_in table.now (map (λ x. x.now) issuers.now) end.now anchors) (map (λ x. x.now) issuers.now) end.now anchors (map (λ x. x.now) distrusted.now) time wanted.now demanded p) → Grew W s result i (extend_tree W s i) (extend_still W s i) }
+    ensures { s.depth < 7
+        → s.phase ≡ Walk
+        → (W : World)
+        → ((p : Path) → W.check p ≡ check_in (readings_in table.now (map (λ x. x.now) issuers.now) end.now anchors)
+        (map (λ x. x.now) issuers.now) end.now anchors (map (λ x. x.now) distrusted.now) time wanted.now demanded p)
+        → Grew W s result i (extend_tree W s i) (extend_still W s i) }
 {
     let extensions = s.extensions;
     let depth = s.depth;

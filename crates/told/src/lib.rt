@@ -88,7 +88,9 @@ pub fn question<'a>(
     key: usize,
     certificate: usize,
 ) -> Asked
-    ensures { result ≡ asked_of key certificate (question_in (readings_in table.now (map (λ x. x.now) issuers.now) end.now anchors) (map (λ x. x.now) issuers.now) end.now (map (λ x. x.now) keys.now) anchors key certificate) }
+    ensures { result ≡ asked_of key certificate (question_in
+        (readings_in table.now (map (λ x. x.now) issuers.now) end.now anchors) (map (λ x. x.now) issuers.now)
+        end.now (map (λ x. x.now) keys.now) anchors key certificate) }
 {
     let nowhere = Span { start: 0, end: 0 };
     match asked::question_of(table, issuers, end, keys, anchors, key, certificate) {

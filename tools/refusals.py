@@ -28,7 +28,7 @@ for names, rank in re.findall(r'((?:Self::.*?))=>\s*(\d+)', body('fn rank('), fl
 fatal = set(re.findall(r'Self::(\w+)', body('fn is_fatal(')))
 
 rows, used = [], set()
-for name, number in re.findall(r'^pub const (\w+): u16 = (\d+);', ours, flags=re.M):
+for name, number in re.findall(r'^ *pub const (\w+): Refusal = Refusal\((\d+)\);', ours, flags=re.M):
     name = ''.join(word.capitalize() for word in name.split('_'))
     shown, variant = name, name
     if name.startswith('Trailing'):

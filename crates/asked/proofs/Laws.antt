@@ -6,11 +6,10 @@ use lib.ListN.{length, get_or, length-map}
 use borrow.Author.Tests.{lt-ltb, le-ltb}
 use denote.Ref.{Bor}
 use Rattle.refusal.specs.Refusals.{bad_der}
-use Rattle.cert.specs.declared.key.Key.TheVariants.{Refused as NoKey}
-use Rattle.cert.specs.declared.Reading.{Reading}
-use Rattle.cert.specs.Model.{key_parts}
+use Rattle.cert.specs.Model.{key_parts, Reading}
 use Rattle.table.proofs.Laws.{behind}
 use Rattle.asked.specs.Model.{key_in}
+use Rattle.std.specs.Prelude.{Err}
 
 -- ---- an anchor's key
 module _ (known : ℕ → Reading) (issuers : List (List ℕ)) (end : List ℕ) (keys : List (Bor (List ℕ))) (anchors n : ℕ) (h : n < anchors) where
@@ -18,6 +17,6 @@ module _ (known : ℕ → Reading) (issuers : List (List ℕ)) (end : List ℕ) 
   unfolding key_in
   key_lent d l = rw (lt-ltb n anchors h, length-map keys (λ x. x.now), lt-ltb n (length keys) l, behind keys n d [] l)
 
-  pub key_beyond : length keys ≤ n → key_in known issuers end (map (λ x. x.now) keys) anchors n ≡ NoKey bad_der
+  pub key_beyond : length keys ≤ n → key_in known issuers end (map (λ x. x.now) keys) anchors n ≡ Err bad_der
   unfolding key_in
   key_beyond l = rw (lt-ltb n anchors h, length-map keys (λ x. x.now), le-ltb n (length keys) l)

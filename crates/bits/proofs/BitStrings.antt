@@ -12,7 +12,6 @@ use lib.Pow.{pow_pos, pow-add}
 use borrow.Author.Tests.{ltb-false, leb-false, eqb-true, eqb-false}
 use Rattle.refusal.specs.Refusals.{bad_der, trailing_bit_string}
 use Rattle.der.specs.declared.Span.{Span}
-use Rattle.der.specs.declared.Got.TheVariants.{Content, Refused as NoContent}
 use Rattle.der.specs.Places.{Bytes, part, LIMIT}
 use Rattle.der.specs.X690.{encoding, bit, BitString, NamedBits, keep_octet, trimmed}
 use Rattle.der.specs.Model.{high_tag, expect_at, on_content}
@@ -22,12 +21,17 @@ use Rattle.der.proofs.Invert.{peel, either}
 use Rattle.der.proofs.Parts.{part_length, part_at, part_cons, part_none, part_tail}
 use Rattle.der.proofs.Laid.{expect_laid, laid_read}
 use Rattle.values.proofs.SmallValues.{There, content_inv}
+use Rattle.std.specs.Prelude.{Result, Ok, Err}
 
-no_got : {e : ℕ} {p : Span} → NoContent e ≡ Content p → ⊥
+-- what was answered is p
+abbrev Is : Result Span ℕ → Span → Type 0
+Is r p = r ≡ Ok p
+
+no_got : {e : ℕ} {p : Span} → Err e ≡ Ok p → ⊥
 no_got h = let z : ◌≡◌ {A = ℕ} 0 1 = cc in omega arith
 
 -- ---- no unused bits
-whole_inv : (s : List ℕ) (from to : ℕ) (p : Span) → whole_octets s from to ≡ Content p → (p.end ≡ to) × (p.start ≤ p.end) × (part s from to ≡ 0 ∷ part s p.start p.end)
+whole_inv : (s : List ℕ) (from to : ℕ) (p : Span) → whole_octets s from to ≡ Ok p → (p.end ≡ to) × (p.start ≤ p.end) × (part s from to ≡ 0 ∷ part s p.start p.end)
 unfolding whole_octets
 whole_inv s from to p e =
     let a = peel (ltb (length s) to) e no_got in
@@ -35,7 +39,7 @@ whole_inv s from to p e =
     go (ltb-false _ _ a.0) (leb-false _ _ b.0) (either (eqb (get_or s from 0) 0) b.1)
   where
     go : to ≤ length s → from < to
-        → ((eqb (get_or s from 0) 0 ≡ true) × (Content (record { start = from + 1; end = to }) ≡ Content p)) ⊎ ((eqb (get_or s from 0) 0 ≡ false) × (NoContent bad_der ≡ Content p))
+        → ((eqb (get_or s from 0) 0 ≡ true) × Is (Ok (record { start = from + 1; end = to })) p) ⊎ ((eqb (get_or s from 0) 0 ≡ false) × Is (Err bad_der) p)
         → (p.end ≡ to) × (p.start ≤ p.end) × (part s from to ≡ 0 ∷ part s p.start p.end)
     go h l (inl c) =
         let q : ◌≡◌ {A = Span} (record { start = from + 1; end = to }) p = cc c.1 in
@@ -44,7 +48,7 @@ whole_inv s from to p e =
     go h l (inr c) = absurd (no_got c.1)
 
 -- accepted: the encoding of the octets behind a 0 stands there
-pub bits_is : (s : List ℕ) → Bytes s → (from to : ℕ) (p : Span) → bits_at s from to ≡ Content p
+pub bits_is : (s : List ℕ) → Bytes s → (from to : ℕ) (p : Span) → bits_at s from to ≡ Ok p
     → (p.start ≤ p.end) × There s from to p.end (encoding 3 (0 ∷ part s p.start p.end))
 unfolding bits_at
 bits_is s b from to p e =
@@ -55,10 +59,10 @@ bits_is s b from to p e =
     let w = whole_inv s a.start a.end p g.2 in
     (w.1, record { within = l.within; inside = omega (arith, l.inside, w.0); bytes = rw w.0 (l.bytes ∙ ap (encoding 3) (rw w.0 at w.2)) }))
     (λ g. absurd (no_got g.2))
-    (content_inv (expect_at s from to 3 trailing_bit_string) NoContent (whole_octets s) e)
+    (content_inv (expect_at s from to 3 trailing_bit_string) Err (whole_octets s) e)
 
 pub is_bits : (s : List ℕ) (from to next : ℕ) (octets : List ℕ) → There s from to next (encoding 3 (0 ∷ octets)) → suc (length octets) < LIMIT
-    → (p : Span) × (bits_at s from to ≡ Content p) × (p.end ≡ next) × (p.start ≤ p.end) × (part s p.start p.end ≡ octets)
+    → (p : Span) × (bits_at s from to ≡ Ok p) × (p.end ≡ next) × (p.start ≤ p.end) × (part s p.start p.end ≡ octets)
 unfolding bits_at on_content whole_octets high_tag
 is_bits s from to next octets t small =
     let f = laid_read s from to 3 (0 ∷ octets) next refl small t.within t.inside t.bytes in
@@ -66,7 +70,7 @@ is_bits s from to next octets t small =
     let l : f.start < next = omega (arith, f.size) in
     let h : next ≤ length s = omega (arith, t.within, t.inside) in
     let q = part_tail s f.start next 0 octets l h f.is in
-    let w : whole_octets s f.start next ≡ Content (record { start = f.start + 1; end = next }) = search (tests, q.0) in
+    let w : whole_octets s f.start next ≡ Ok (record { start = f.start + 1; end = next }) = search (tests, q.0) in
     (record { start = f.start + 1; end = next }, rw (g, w), refl, omega arith, q.1)
 
 -- ---- flags
@@ -88,7 +92,7 @@ pub record FlagsThere (s : List ℕ) (from to : ℕ) (p : Span) : Type 0 where
   pub end_is : p.end ≡ to
   pub string : BitString (get_or s from 0) (part s (from + 1) to)
 
-pub flags_is : (s : List ℕ) (from to : ℕ) (p : Span) → flags_in s from to ≡ Content p → FlagsThere s from to p
+pub flags_is : (s : List ℕ) (from to : ℕ) (p : Span) → flags_in s from to ≡ Ok p → FlagsThere s from to p
 unfolding flags_in
 flags_is s from to p e =
     let a = peel (ltb (length s) to) e no_got in
@@ -96,13 +100,13 @@ flags_is s from to p e =
     let c = peel (ltb 7 (get_or s from 0)) b.1 no_got in
     go (ltb-false _ _ a.0) (leb-false _ _ b.0) (ltb-false _ _ c.0) (either (eqb (to - from) 1) c.1)
   where
-    spanned : (unused : ℕ) → unused ≡ get_or s from 0 → to ≤ length s → from < to → Content (record { start = from + 1; end = to }) ≡ Content p → BitString unused (part s (from + 1) to) → FlagsThere s from to p
+    spanned : (unused : ℕ) → unused ≡ get_or s from 0 → to ≤ length s → from < to → Is (Ok (record { start = from + 1; end = to })) p → BitString unused (part s (from + 1) to) → FlagsThere s from to p
     spanned unused u h l q string =
         let r : ◌≡◌ {A = Span} (record { start = from + 1; end = to }) p = cc in
         rw (← r) (record { within = h; some = l; start_is = refl; end_is = refl; string = rw (← u) string })
 
     one : to ≤ length s → from < to → to - from ≡ 1
-        → ((ltb 0 (get_or s from 0) ≡ true) × (NoContent bad_der ≡ Content p)) ⊎ ((ltb 0 (get_or s from 0) ≡ false) × (Content (record { start = from + 1; end = to }) ≡ Content p))
+        → ((ltb 0 (get_or s from 0) ≡ true) × Is (Err bad_der) p) ⊎ ((ltb 0 (get_or s from 0) ≡ false) × Is (Ok (record { start = from + 1; end = to })) p)
         → FlagsThere s from to p
     one h l k (inl d) = absurd (no_got d.1)
     one h l k (inr d) =
@@ -112,7 +116,7 @@ flags_is s from to p e =
         spanned 0 (omega arith) h l d.1 (record { few = omega arith; empty = λ x. refl; zeros = rw none })
 
     more : to ≤ length s → from < to → get_or s from 0 ≤ 7 → (to - from ≡ 1 → ⊥)
-        → ((eqb (get_or s (to - 1) 0 % (2 ^ get_or s from 0)) 0 ≡ true) × (Content (record { start = from + 1; end = to }) ≡ Content p)) ⊎ ((eqb (get_or s (to - 1) 0 % (2 ^ get_or s from 0)) 0 ≡ false) × (NoContent bad_der ≡ Content p))
+        → ((eqb (get_or s (to - 1) 0 % (2 ^ get_or s from 0)) 0 ≡ true) × Is (Ok (record { start = from + 1; end = to })) p) ⊎ ((eqb (get_or s (to - 1) 0 % (2 ^ get_or s from 0)) 0 ≡ false) × Is (Err bad_der) p)
         → FlagsThere s from to p
     more h l few k (inl d) =
         spanned (get_or s from 0) refl h l d.1 (record {
@@ -126,13 +130,13 @@ flags_is s from to p e =
     more h l few k (inr d) = absurd (no_got d.1)
 
     go : to ≤ length s → from < to → get_or s from 0 ≤ 7
-        → ((eqb (to - from) 1 ≡ true) × (cond (ltb 0 (get_or s from 0)) (NoContent bad_der) (Content (record { start = from + 1; end = to })) ≡ Content p))
-        ⊎ ((eqb (to - from) 1 ≡ false) × (cond (eqb (get_or s (to - 1) 0 % (2 ^ get_or s from 0)) 0) (Content (record { start = from + 1; end = to })) (NoContent bad_der) ≡ Content p))
+        → ((eqb (to - from) 1 ≡ true) × Is (cond (ltb 0 (get_or s from 0)) (Err bad_der) (Ok (record { start = from + 1; end = to }))) p)
+        ⊎ ((eqb (to - from) 1 ≡ false) × Is (cond (eqb (get_or s (to - 1) 0 % (2 ^ get_or s from 0)) 0) (Ok (record { start = from + 1; end = to })) (Err bad_der)) p)
         → FlagsThere s from to p
     go h l few (inl d) = one h l (eqb-true _ _ d.0) (either (ltb 0 (get_or s from 0)) d.1)
     go h l few (inr d) = more h l few (eqb-false _ _ d.0) (either (eqb (get_or s (to - 1) 0 % (2 ^ get_or s from 0)) 0) d.1)
 
-pub is_flags : (s : List ℕ) (from to : ℕ) (p : Span) → FlagsThere s from to p → flags_in s from to ≡ Content p
+pub is_flags : (s : List ℕ) (from to : ℕ) (p : Span) → FlagsThere s from to p → flags_in s from to ≡ Ok p
 unfolding flags_in
 is_flags s from to p t =
     let h : to ≤ length s = t.within in

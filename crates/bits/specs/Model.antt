@@ -1,34 +1,33 @@
 -- What the code answers, as functions of the bytes: the same tests in the same order.
-use Rattle.std.specs.Prelude.{ℕ, ◌+◌, ◌-◌, ◌/◌, ◌%◌, ◌^◌, List, Bool, false, cond, length, get_or, ltb, leb, eqb}
+use Rattle.std.specs.Prelude.{ℕ, ◌+◌, ◌-◌, ◌/◌, ◌%◌, ◌^◌, List, Bool, false, cond, length, get_or, ltb, leb, eqb, Ok, Err, Result}
 use Rattle.refusal.specs.Refusals.{bad_der, trailing_bit_string}
-use Rattle.der.specs.declared.Got.{Got}
-use Rattle.der.specs.declared.Got.TheVariants.{Content, Refused as NoContent}
 use Rattle.der.specs.Model.{expect_at, on_content}
+use Rattle.der.specs.declared.Span.{Span}
 
-unfoldable pub whole_octets : List ℕ → ℕ → ℕ → Got
+unfoldable pub whole_octets : List ℕ → ℕ → ℕ → Result Span ℕ
 whole_octets s from to =
     cond (ltb (length s) to)
-    (NoContent bad_der)
+    (Err bad_der)
     (cond (leb to from)
-    (NoContent bad_der)
-    (cond (eqb (get_or s from 0) 0) (Content (record { start = from + 1; end = to })) (NoContent bad_der)))
+    (Err bad_der)
+    (cond (eqb (get_or s from 0) 0) (Ok (record { start = from + 1; end = to })) (Err bad_der)))
 
-unfoldable pub bits_at : List ℕ → ℕ → ℕ → Got
-bits_at s from to = on_content (expect_at s from to 3 trailing_bit_string) NoContent (whole_octets s)
+unfoldable pub bits_at : List ℕ → ℕ → ℕ → Result Span ℕ
+bits_at s from to = on_content (expect_at s from to 3 trailing_bit_string) Err (whole_octets s)
 
-unfoldable pub flags_in : List ℕ → ℕ → ℕ → Got
+unfoldable pub flags_in : List ℕ → ℕ → ℕ → Result Span ℕ
 flags_in s from to =
     cond (ltb (length s) to)
-    (NoContent bad_der)
+    (Err bad_der)
     (cond (leb to from)
-    (NoContent bad_der)
+    (Err bad_der)
     (cond (ltb 7 (get_or s from 0))
-    (NoContent bad_der)
+    (Err bad_der)
     (cond (eqb (to - from) 1)
-    (cond (ltb 0 (get_or s from 0)) (NoContent bad_der) (Content (record { start = from + 1; end = to })))
+    (cond (ltb 0 (get_or s from 0)) (Err bad_der) (Ok (record { start = from + 1; end = to })))
     (cond (eqb (get_or s (to - 1) 0 % (2 ^ get_or s from 0)) 0)
-    (Content (record { start = from + 1; end = to }))
-    (NoContent bad_der)))))
+    (Ok (record { start = from + 1; end = to }))
+    (Err bad_der)))))
 
 unfoldable pub flag_at : List ℕ → ℕ → ℕ → ℕ → Bool
 flag_at s from to k =

@@ -9,10 +9,7 @@ use borrow.Author.Tests.{lt-ltb, le-ltb, le-leb, lt-leb}
 use denote.Ref.{Bor}
 use Rattle.der.specs.declared.Span.{Span}
 use Rattle.refusal.specs.Refusals.{unknown_issuer, maximum_path_depth_exceeded}
-use Rattle.cert.specs.declared.Reading.{Reading}
 use Rattle.rows.specs.declared.Outline.{Outline}
-use Rattle.rows.specs.declared.Outlined.{Outlined}
-use Rattle.rows.specs.declared.Outlined.TheVariants.{Is, Refused as NoOutline}
 use Rattle.rows.specs.Model.{outlined, on_outline}
 use Rattle.table.proofs.Laws.{behind}
 use Rattle.candidate.specs.declared.Verdict.TheVariants.{Pass}
@@ -20,6 +17,8 @@ use Rattle.lent.specs.Lent.{certificate_of, pre, newest}
 use Rattle.path.specs.Model.{depth_of}
 use Rattle.candidate.specs.Model.{has_both_as, anchor_verdict, is_whole, anchor_at, issuer_verdict_in, verdict_in}
 use Rattle.lent.proofs.Laws.{lower_length}
+use Rattle.std.specs.Prelude.{Ok, Err, Result}
+use Rattle.cert.specs.Model.{Reading}
 
 -- ---- an anchor
 module _ (subjects keys : List (Bor (List ℕ))) (constraints : List (List ℕ)) (bound : List ℕ) (distrusted : List (List ℕ)) (head : List ℕ) (issuer : Span) (i : ℕ) where
@@ -44,21 +43,21 @@ module _ (known : ℕ → Reading) (issuers : List (List ℕ)) (end : List ℕ) 
     verdict_deep h = simp (lower_length path d, le-leb 7 d h)
 
     module _ {anchors n : ℕ} {s : List ℕ} (count : anchors ≡ length subjects) (few : d ≤ 6) (at : n ≡ get_or path d 0) (is : s ≡ certificate_of issuers end anchors n) where
-      reads : {x : Outlined} → outlined (known n) ≡ x → outlined (known (get_or path d 0)) ≡ x
+      reads : {x : Result Outline ℕ} → outlined (known n) ≡ x → outlined (known (get_or path d 0)) ≡ x
       reads e = rw (← at) e
 
-      pub verdict_refused : {e : ℕ} → outlined (known n) ≡ NoOutline e → Pass e ≡ verdict_in known issuers end subjects keys constraints bound distrusted (pre path d) i
+      pub verdict_refused : {e : ℕ} → outlined (known n) ≡ Err e → Pass e ≡ verdict_in known issuers end subjects keys constraints bound distrusted (pre path d) i
       unfolding verdict_in newest depth_of on_outline
       verdict_refused r = simp (lower_length path d, lt-leb 7 d (omega arith), reads r)
 
-      pub verdict_anchor : {o : Outline} → outlined (known n) ≡ Is o → i < anchors
+      pub verdict_anchor : {o : Outline} → outlined (known n) ≡ Ok o → i < anchors
           → anchor_at subjects keys constraints bound distrusted s o.issuer i ≡ verdict_in known issuers end subjects keys constraints bound distrusted (pre path d) i
       unfolding verdict_in newest depth_of on_outline
       verdict_anchor r h =
           let l : i < length subjects = omega arith in
           simp (is, at, count, lower_length path d, lt-leb 7 d (omega arith), reads r, lt-ltb i (length subjects) l)
 
-      pub verdict_issuer : {o : Outline} {t : List ℕ} {g : Outlined} → outlined (known n) ≡ Is o → anchors ≤ i → t ≡ certificate_of issuers end anchors i → g ≡ outlined (known i)
+      pub verdict_issuer : {o : Outline} {t : List ℕ} {g : Result Outline ℕ} → outlined (known n) ≡ Ok o → anchors ≤ i → t ≡ certificate_of issuers end anchors i → g ≡ outlined (known i)
           → issuer_verdict_in known issuers end anchors (pre path d) s o.issuer t g ≡ verdict_in known issuers end subjects keys constraints bound distrusted (pre path d) i
       unfolding verdict_in newest depth_of on_outline
       verdict_issuer r h e g =
@@ -66,6 +65,6 @@ module _ (known : ℕ → Reading) (issuers : List (List ℕ)) (end : List ℕ) 
           simp (is, at, e, g, count, lower_length path d, lt-leb 7 d (omega arith), reads r, le-ltb i (length subjects) l)
 
 -- whether a certificate of the path has both, by what is known of it
-pub both_at : (known : ℕ → Reading) (issuers : List (List ℕ)) (end : List ℕ) (anchors : ℕ) (s : List ℕ) (subject key : Span) (n : ℕ) {t : List ℕ} {o : Outlined} {v : Bool} → t ≡ certificate_of issuers end anchors n → o ≡ outlined (known n)
+pub both_at : (known : ℕ → Reading) (issuers : List (List ℕ)) (end : List ℕ) (anchors : ℕ) (s : List ℕ) (subject key : Span) (n : ℕ) {t : List ℕ} {o : Result Outline ℕ} {v : Bool} → t ≡ certificate_of issuers end anchors n → o ≡ outlined (known n)
     → has_both_as o s subject key t ≡ v → has_both_as (outlined (known n)) s subject key (certificate_of issuers end anchors n) ≡ v
 both_at known issuers end anchors s subject key n b g e = rw (← b, ← g) e

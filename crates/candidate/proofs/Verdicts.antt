@@ -15,7 +15,6 @@ use Rattle.parts.specs.Model.{same_parts}
 use Rattle.der.proofs.Invert.{peel}
 use Rattle.parts.proofs.Equal.{same_yes, same_equal}
 use Rattle.cert.specs.declared.Certificate.{Certificate}
-use Rattle.cert.specs.declared.Reading.TheVariants.{Accepted}
 use Rattle.cert.specs.Model.{read_certificate}
 use Rattle.der.proofs.Parts.{part_whole}
 use Rattle.extensions.proofs.Inversion.{chosen}
@@ -33,6 +32,7 @@ use Rattle.path.specs.Model.{depth_of}
 use Rattle.candidate.specs.Model.{has_both, on_path, anchor_verdict, is_flagged, is_whole, anchor_at, issuer_verdict, verdict_on, has_both_as, issuer_verdict_in, on_path_in, verdict_in}
 use Rattle.checks.proofs.Skeletons.{reads_certificate, certificate_reads}
 use Rattle.path.proofs.Checked.{listed_trusted, trusted_listed}
+use Rattle.std.specs.Prelude.{Ok}
 
 pass_extend : {e : ℕ} → Pass e ≡ Extend → ⊥
 pass_extend q = let z : ◌≡◌ {A = ℕ} 0 1 = cc in omega arith
@@ -52,7 +52,7 @@ module _ (s t : List ℕ) (p q : Span) where
   same_fields e = (same_yes s p.start p.end t q.start q.end e).4
 
 -- ---- subject and key on the path
-module _ (s : List ℕ) (b : Bytes s) (c : Certificate) (r : read_certificate s true ≡ Accepted c) where
+module _ (s : List ℕ) (b : Bytes s) (c : Certificate) (r : read_certificate s true ≡ Ok c) where
   both_same : (t : List ℕ) → has_both s c.subject c.key t ≡ true → (o : Contents) × Reads t o × Same (contents_of s c) o
   unfolding has_both_as
   both_same t e =

@@ -1,21 +1,20 @@
 -- What the code answers, as functions of the lent bytes and of what is known of each certificate, by number: the same tests in the same order.
 -- Each has an abbreviation for the case that what is known is what is read of the bytes. A path is a list of numbers, the newest first, the end
 -- entity last. Where a number is a refusal or none, 0 is none.
-use Rattle.std.specs.Prelude.{ℕ, suc, List, [], Bool, true, false, cond, not, length, get_or, ltb, leb, eqb}
+use Rattle.std.specs.Prelude.{ℕ, suc, List, [], Bool, true, false, cond, not, length, get_or, ltb, leb, eqb, Result}
 use Rattle.refusal.specs.Refusals.{unknown_issuer, cert_distrusted, maximum_path_depth_exceeded}
 use Rattle.der.specs.declared.Span.{Span}
 use Rattle.parts.specs.Model.{same_parts}
-use Rattle.cert.specs.declared.Reading.{Reading}
-use Rattle.cert.specs.Model.{read_certificate}
-use Rattle.rows.specs.declared.Outlined.{Outlined}
+use Rattle.cert.specs.Model.{read_certificate, Reading}
 use Rattle.rows.specs.Model.{outlined, on_outline}
 use Rattle.lent.specs.Lent.{most_intermediates, certificate_of, readings_of, listed, some_of, newest}
 use Rattle.path.specs.Model.{depth_of}
 use Rattle.candidate.specs.declared.Verdict.{Verdict}
 use Rattle.candidate.specs.declared.Verdict.TheVariants.{Pass, Anchor, Extend}
+use Rattle.rows.specs.declared.Outline.{Outline}
 
 -- ---- a candidate
-unfoldable pub has_both_as : Outlined → List ℕ → Span → Span → List ℕ → Bool
+unfoldable pub has_both_as : Result Outline ℕ → List ℕ → Span → Span → List ℕ → Bool
 has_both_as o s subject key t =
     on_outline o (λ e. false) (λ c.
     cond (same_parts s subject.start subject.end t c.subject.start c.subject.end)
@@ -37,7 +36,7 @@ anchor_verdict subject key distrusted head issuer =
     (cond (listed distrusted key 0 (length key)) (Pass cert_distrusted) Anchor)
     (Pass unknown_issuer)
 
-unfoldable pub issuer_verdict_in : (ℕ → Reading) → List (List ℕ) → List ℕ → ℕ → List ℕ → List ℕ → Span → List ℕ → Outlined → Verdict
+unfoldable pub issuer_verdict_in : (ℕ → Reading) → List (List ℕ) → List ℕ → ℕ → List ℕ → List ℕ → Span → List ℕ → Result Outline ℕ → Verdict
 issuer_verdict_in known issuers end anchors path head issuer s o =
     on_outline o Pass (λ c.
     cond (same_parts s c.subject.start c.subject.end head issuer.start issuer.end)

@@ -1,64 +1,42 @@
 // What a candidate is to a path: an anchor to try, an issuer to extend the path with, or passed over.
 #![tactic(auto)]
 
-ghost use Rattle.std.specs.Prelude.{◌≡◌, map, length, ◌<◌};
-ghost use Rattle.lent.specs.Lent.{readings_in, pre};
+ghost use Rattle.std.specs.Prelude.{◌≡◌, length, ◌<◌};
+ghost use Rattle.lent.specs.Lent.{readings, each_now, lent_of, pre};
 ghost use Rattle.candidate.specs.Model.{has_both_as, on_path_in, anchor_verdict, is_flagged, is_whole, anchor_at, issuer_verdict_in, verdict_in};
 
 use der::Span;
-use lent::MOST_INTERMEDIATES;
-use rows::Outlined;
+use lent::{Anchors, Lent, MOST_INTERMEDIATES, Request};
+use refusal::Refusal;
+use rows::Outline;
 
 #[derive(Clone, Copy)]
 pub enum Verdict {
-    Pass(u16),
+    Pass(Refusal),
     Anchor,
     Extend,
 }
 
 // Whether the certificate t, of which that much is known, has the subject and the key that stand in s.
-fn has_both(s: &[u8], subject: Span, key: Span, t: &[u8], outline: Outlined) -> bool
+fn has_both(s: &[u8], subject: Span, key: Span, t: &[u8], outline: Result<Outline, Refusal>) -> bool
     ensures { result ≡ has_both_as outline s.now subject key t.now }
 {
-    match outline {
-        Outlined::Is(c) => {
-            let other = c.subject;
-            let own = c.key;
-            if parts::same(s, subject.start, subject.end, t, other.start, other.end) {
-                return parts::same(s, key.start, key.end, t, own.start, own.end);
-            }
-            false
-        }
-        Outlined::Refused(_) => false,
-    }
+    let Ok(other) = outline else {
+        return false;
+    };
+    let same = |p: Span, q: Span| parts::same(s, p.start, p.end, t, q.start, q.end);
+    same(subject, other.subject) && same(key, other.key)
 }
 
 // Whether some certificate of the path, the end entity among them, has the subject and the key that stand in s.
-fn on_path<'a>(
-    table: &[[usize; 37]],
-    issuers: &[&'a [u8]],
-    end: &'a [u8],
-    anchors: usize,
-    path: [usize; 7],
-    depth: usize,
-    s: &[u8],
-    subject: Span,
-    key: Span,
-) -> bool
+fn on_path(lent: &Lent, path: [usize; 7], depth: usize, s: &[u8], subject: Span, key: Span) -> bool
     requires { depth < 7 }
-    ensures { result ≡ on_path_in (readings_in table.now (map (λ x. x.now) issuers.now) end.now anchors) (map (λ x. x.now) issuers.now) end.now anchors s.now subject key (pre path depth) }
+    ensures { result ≡ on_path_in (readings lent.now) (each_now lent.now.issuers.now) lent.now.end.now lent.now.anchors s.now subject key (pre path depth) }
 {
-    let mut k = depth + 1;
-    while 0 < k {
-        k -= 1;
-        let n = lent::number_at(path, k);
-        let t = lent::certificate(issuers, end, anchors, n);
-        let outline = lent::outline(table, issuers, end, anchors, n);
-        if has_both(s, subject, key, t, outline) {
-            return true;
-        }
-    }
-    false
+    path[..=depth].iter().rev().any(|n| {
+        let t = lent.certificate(*n);
+        has_both(s, subject, key, t, lent.outline(*n))
+    })
 }
 
 // The verdict on an anchor for a certificate whose issuer stands in `head`.
@@ -69,147 +47,124 @@ fn anchor_verdict(
     head: &[u8],
     issuer: Span,
 ) -> Verdict
-    ensures { result ≡ anchor_verdict subject.now key.now (map (λ x. x.now) distrusted.now) head.now issuer }
+    ensures { result ≡ anchor_verdict subject.now key.now (each_now distrusted.now) head.now issuer }
 {
-    if parts::same(subject, 0, subject.len(), head, issuer.start, issuer.end) {
-        if lent::is_distrusted(distrusted, key, 0, key.len()) {
-            return Verdict::Pass(refusal::CERT_DISTRUSTED);
-        }
-        return Verdict::Anchor;
+    if !parts::same(subject, 0, subject.len(), head, issuer.start, issuer.end) {
+        return Verdict::Pass(Refusal::UNKNOWN_ISSUER);
     }
-    Verdict::Pass(refusal::UNKNOWN_ISSUER)
+    if lent::is_distrusted(distrusted, key, 0, key.len()) {
+        return Verdict::Pass(Refusal::CERT_DISTRUSTED);
+    }
+    Verdict::Anchor
 }
 
 // Whether the flag of anchor i says that it has name constraints. One that is not there says that it has none.
 pub fn is_flagged(bound: &[u8], i: usize) -> bool
     ensures { result ≡ is_flagged bound.now i }
 {
-    if i < bound.len() {
-        return bound[i] != 0;
-    }
-    false
+    i < bound.len() && bound[i] != 0
 }
 
 // Whether the list has the name constraints of anchor i, if its flag says that it has any.
 fn is_whole(constraints: &[&[u8]], bound: &[u8], i: usize) -> bool
-    ensures { result ≡ is_whole (map (λ x. x.now) constraints.now) bound.now i }
+    ensures { result ≡ is_whole (each_now constraints.now) bound.now i }
 {
-    if is_flagged(bound, i) {
-        return i < constraints.len();
-    }
-    true
+    !is_flagged(bound, i) || i < constraints.len()
 }
 
-// The same of anchor i; one without a key, or without the name constraints that it has by its flag, is nobody's issuer.
+// The verdict on anchor i; one without a key, or without the name constraints that it has by its flag, is nobody's issuer.
 fn anchor_at(
-    subjects: &[&[u8]],
-    keys: &[&[u8]],
-    constraints: &[&[u8]],
-    bound: &[u8],
+    anchors: &Anchors,
     distrusted: &[&[u8]],
     head: &[u8],
     issuer: Span,
     i: usize,
 ) -> Verdict
-    requires { i < length subjects.now }
-    ensures { result ≡ anchor_at (map (λ x. x.now) subjects.now) (map (λ x. x.now) keys.now) (map (λ x. x.now) constraints.now) bound.now (map (λ x. x.now) distrusted.now) head.now issuer i }
+    requires { i < length anchors.now.subjects.now }
+    ensures { result ≡ anchor_at (each_now anchors.now.subjects.now) (each_now anchors.now.keys.now)
+        (each_now anchors.now.constraints.now) anchors.now.bound.now (each_now distrusted.now) head.now issuer i }
 {
-    if i < keys.len() {
-        if is_whole(constraints, bound, i) {
-            let subject = subjects[i];
-            let key = keys[i];
-            return anchor_verdict(subject, key, distrusted, head, issuer);
-        }
-        return Verdict::Pass(refusal::UNKNOWN_ISSUER);
+    if i < anchors.keys.len() && is_whole(anchors.constraints, anchors.bound, i) {
+        return anchor_verdict(
+            anchors.subjects[i],
+            anchors.keys[i],
+            distrusted,
+            head,
+            issuer,
+        );
     }
-    Verdict::Pass(refusal::UNKNOWN_ISSUER)
+    Verdict::Pass(Refusal::UNKNOWN_ISSUER)
 }
 
 // The verdict on the certificate s, of which that much is known, as an issuer: for a path whose newest certificate has its issuer in `head`.
-fn issuer_verdict<'a>(
-    table: &[[usize; 37]],
-    issuers: &[&'a [u8]],
-    end: &'a [u8],
-    anchors: usize,
+fn issuer_verdict(
+    lent: &Lent,
     path: [usize; 7],
     depth: usize,
     head: &[u8],
     issuer: Span,
     s: &[u8],
-    outline: Outlined,
+    outline: Result<Outline, Refusal>,
 ) -> Verdict
     requires { depth < 7 }
-    ensures { result ≡ issuer_verdict_in (readings_in table.now (map (λ x. x.now) issuers.now) end.now anchors)
-        (map (λ x. x.now) issuers.now) end.now anchors (pre path depth) head.now issuer s.now outline }
+    ensures { result ≡ issuer_verdict_in (readings lent.now) (each_now lent.now.issuers.now) lent.now.end.now lent.now.anchors
+        (pre path depth) head.now issuer s.now outline }
 {
     match outline {
-        Outlined::Is(c) => {
-            let subject = c.subject;
-            let key = c.key;
-            if parts::same(
+        Ok(c) => {
+            if !parts::same(
                 s,
-                subject.start,
-                subject.end,
+                c.subject.start,
+                c.subject.end,
                 head,
                 issuer.start,
                 issuer.end,
             ) {
-                if on_path(table, issuers, end, anchors, path, depth, s, subject, key) {
-                    return Verdict::Pass(refusal::UNKNOWN_ISSUER);
-                }
-                return Verdict::Extend;
+                return Verdict::Pass(Refusal::UNKNOWN_ISSUER);
             }
-            Verdict::Pass(refusal::UNKNOWN_ISSUER)
+            if on_path(lent, path, depth, s, c.subject, c.key) {
+                return Verdict::Pass(Refusal::UNKNOWN_ISSUER);
+            }
+            Verdict::Extend
         }
-        Outlined::Refused(why) => Verdict::Pass(why),
+        Err(why) => Verdict::Pass(why),
     }
 }
 
 // The verdict on candidate i for a path.
-pub fn verdict_on<'a>(
-    table: &[[usize; 37]],
-    issuers: &[&'a [u8]],
-    end: &'a [u8],
-    subjects: &[&[u8]],
-    keys: &[&[u8]],
-    constraints: &[&[u8]],
-    bound: &[u8],
-    distrusted: &[&[u8]],
-    path: [usize; 7],
-    depth: usize,
-    i: usize,
-) -> Verdict
-    ensures { result ≡ verdict_in (readings_in table.now (map (λ x. x.now) issuers.now) end.now (length subjects.now))
-        (map (λ x. x.now) issuers.now) end.now (map (λ x. x.now) subjects.now) (map (λ x. x.now) keys.now)
-        (map (λ x. x.now) constraints.now) bound.now (map (λ x. x.now) distrusted.now) (pre path depth) i }
+pub fn verdict_on(request: &Request, path: [usize; 7], depth: usize, i: usize) -> Verdict
+    ensures { result ≡ verdict_in (readings (lent_of request.now)) (each_now request.now.issuers.now) request.now.end.now
+        (each_now request.now.anchors.subjects.now) (each_now request.now.anchors.keys.now)
+        (each_now request.now.anchors.constraints.now) request.now.anchors.bound.now
+        (each_now request.now.policy.distrusted.now) (pre path depth) i }
 {
     if MOST_INTERMEDIATES < depth {
-        return Verdict::Pass(refusal::MAXIMUM_PATH_DEPTH_EXCEEDED);
+        return Verdict::Pass(Refusal::MAXIMUM_PATH_DEPTH_EXCEEDED);
     }
-    let anchors = subjects.len();
+    let lent = request.lent();
     let n = lent::number_at(path, depth);
-    let head = lent::certificate(issuers, end, anchors, n);
-    match lent::outline(table, issuers, end, anchors, n) {
-        Outlined::Is(c) => {
-            let issuer = c.issuer;
-            if i < anchors {
+    let head = lent.certificate(n);
+    match lent.outline(n) {
+        Ok(c) => {
+            if i < lent.anchors {
                 return anchor_at(
-                    subjects,
-                    keys,
-                    constraints,
-                    bound,
-                    distrusted,
+                    &request.anchors,
+                    request.policy.distrusted,
                     head,
-                    issuer,
+                    c.issuer,
                     i,
                 );
             }
-            let s = lent::certificate(issuers, end, anchors, i);
-            let outline = lent::outline(table, issuers, end, anchors, i);
             issuer_verdict(
-                table, issuers, end, anchors, path, depth, head, issuer, s, outline,
+                &lent,
+                path,
+                depth,
+                head,
+                c.issuer,
+                lent.certificate(i),
+                lent.outline(i),
             )
         }
-        Outlined::Refused(e) => Verdict::Pass(e),
+        Err(e) => Verdict::Pass(e),
     }
 }

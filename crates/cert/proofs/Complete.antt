@@ -12,13 +12,9 @@ use Rattle.der.specs.X690.{encoding}
 use Rattle.der.proofs.Parts.{part_length, part_whole}
 use Rattle.parts.proofs.Equal.{same_equal}
 use Rattle.extensions.proofs.Complete.{extensions_found}
-use Rattle.cert.specs.declared.Reading.TheVariants.{Accepted}
 use Rattle.envelope.specs.declared.Envelope.{Envelope}
-use Rattle.envelope.specs.declared.Opened.TheVariants.{Parts}
 use Rattle.envelope.specs.declared.Beginning.{Beginning}
-use Rattle.envelope.specs.declared.Begun.TheVariants.{With}
 use Rattle.cert.specs.declared.Fields.{Fields}
-use Rattle.cert.specs.declared.Found.TheVariants.{All as AllFields}
 use Rattle.extensions.specs.Model.{span}
 use Rattle.envelope.specs.Model.{opened, begun}
 use Rattle.cert.specs.Model.{fields_at, read_certificate}
@@ -32,11 +28,12 @@ use Rattle.cert.proofs.Cases.{fields_case, read_case}
 use Rattle.extensions.proofs.Value.{find_last, find_in}
 use Rattle.cert.proofs.Small.{bits_short, bits_found, version_found}
 use Rattle.cert.proofs.Sound.{placed}
+use Rattle.std.specs.Prelude.{Ok}
 
 -- ---- issuer, validity, subject, key
 pub fields_found : (s : List ℕ) (from to : ℕ) (issuer validity subject key rest : List ℕ) → from ≤ to → to ≤ length s → to - from < LIMIT
     → part s from to ≡ sequence issuer ++ (sequence validity ++ (sequence subject ++ (sequence key ++ rest)))
-    → (f : Fields) × (fields_at s from to ≡ AllFields f) × (f.issuer ≡ place_of from issuer) × (f.validity ≡ place_of f.issuer.end validity) × (f.subject ≡ place_of f.validity.end subject)
+    → (f : Fields) × (fields_at s from to ≡ Ok f) × (f.issuer ≡ place_of from issuer) × (f.validity ≡ place_of f.issuer.end validity) × (f.subject ≡ place_of f.validity.end subject)
     × (f.key ≡ place_of f.subject.end key) × (from ≤ f.key.end) × (f.key.end ≤ to) × (part s f.key.end to ≡ rest)
 unfolding sequence
 fields_found s from to issuer validity subject key rest h l small e =
@@ -71,7 +68,7 @@ fields_found s from to issuer validity subject key rest h l small e =
 pub begun_found : (s : List ℕ) (from to : ℕ) (outer : Span) (serial algorithm rest : List ℕ) → from ≤ to → to ≤ length s → to - from < LIMIT
     → outer.start ≤ outer.end → outer.end ≤ length s → part s outer.start outer.end ≡ algorithm
     → part s from to ≡ version ++ (integer serial ++ (sequence algorithm ++ rest))
-    → (b : Beginning) × (begun s from to outer ≡ With b) × (b.serial ≡ place_of (place_of from (integer (2 ∷ []))).end serial) × (b.algorithm ≡ place_of b.serial.end algorithm)
+    → (b : Beginning) × (begun s from to outer ≡ Ok b) × (b.serial ≡ place_of (place_of from (integer (2 ∷ []))).end serial) × (b.algorithm ≡ place_of b.serial.end algorithm)
     × (from ≤ b.algorithm.end) × (b.algorithm.end ≤ to) × (part s b.algorithm.end to ≡ rest)
 unfolding integer sequence
 begun_found s from to outer serial algorithm rest h l small oo oi oa e =
@@ -104,7 +101,7 @@ outside tbs algorithm octets = sequence tbs ++ (sequence algorithm ++ bit_string
 
 record EnvelopeFound (s tbs algorithm octets : List ℕ) : Type 0 where
   pub v : Envelope
-  pub found : opened s ≡ Parts v
+  pub found : opened s ≡ Ok v
   pub signed : v.signed ≡ span (place_of 0 (outside tbs algorithm octets)).start v.content.end
   pub content_at : v.content ≡ place_of (place_of 0 (outside tbs algorithm octets)).start tbs
   pub algorithm_at : v.algorithm ≡ place_of v.content.end algorithm
@@ -163,7 +160,7 @@ tbs_is : (k : Skeleton) → tbs_content k ≡ version ++ (integer k.serial ++ (s
 unfolding tbs_content
 tbs_is k = refl
 
-complete_at : (s : List ℕ) (strict : Bool) (k : Skeleton) → s ≡ certificate k → Readable strict k → read_certificate s strict ≡ Accepted (places k)
+complete_at : (s : List ℕ) (strict : Bool) (k : Skeleton) → s ≡ certificate k → Readable strict k → read_certificate s strict ≡ Ok (places k)
 unfolding certificate certificate_content tbs_certificate
 complete_at s strict k e r =
     let o = envelope_found s (tbs_content k) k.algorithm k.signature e r.short in
@@ -174,7 +171,7 @@ complete_at s strict k e r =
     let f = q.0 in
     let x = extensions_found s f.key.end c.end strict k.extensions q.7 o.inside (omega (arith, q.6, p.4, o.small)) q.8 r.each r.once in
     read_case s strict o.found p.1 q.1 x
-    ∙ ap Accepted (placed k o.v b f (known_at f.key.end k.extensions) o.signed o.content_at o.algorithm_at o.signature_at p.2 p.3 q.2 q.3 q.4 q.5 refl)
+    ∙ ap Ok (placed k o.v b f (known_at f.key.end k.extensions) o.signed o.content_at o.algorithm_at o.signature_at p.2 p.3 q.2 q.3 q.4 q.5 refl)
 
-pub complete : (strict : Bool) (k : Skeleton) → Readable strict k → read_certificate (certificate k) strict ≡ Accepted (places k)
+pub complete : (strict : Bool) (k : Skeleton) → Readable strict k → read_certificate (certificate k) strict ≡ Ok (places k)
 complete strict k r = complete_at (certificate k) strict k refl r

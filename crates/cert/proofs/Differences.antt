@@ -18,13 +18,12 @@ use Rattle.extensions.specs.Rfc5280.{Extension, Extensions, missing, present, ex
 use Rattle.extensions.specs.Meaning.{said_by, said}
 use Rattle.extensions.specs.Conforming.{Typed, Marked, Value, Distinct}
 use Rattle.extensions.specs.Conforming as conforming
-use Rattle.extensions.specs.Accepted.{KnownNumber, key_usage, subject_alt_name, basic_constraints, name_constraints, crl_distribution_points, occurs}
+use Rattle.extensions.specs.Accepted.{KnownNumber, subject_alt_name, basic_constraints, name_constraints, crl_distribution_points, occurs}
 use Rattle.extensions.specs.Accepted.{Taken, usage, known, other, Each, none as no_more, more as and_then}
 use Rattle.extensions.proofs.Value.{encoded_length}
 use Rattle.extensions.proofs.Numbers.{false_true, numbers}
 use Rattle.extensions.proofs.Unique.{last_in}
 use Rattle.extensions.proofs.Conforming.{occurs_once}
-use Rattle.cert.specs.declared.Reading.TheVariants.{Accepted}
 use Rattle.cert.specs.Model.{read_certificate}
 use Rattle.cert.specs.Rfc5280.{integer, bit_string, Skeleton, version, tbs_content, tbs_certificate, certificate_content, certificate}
 use Rattle.cert.specs.Meaning.{meaning}
@@ -33,6 +32,7 @@ use Rattle.cert.specs.Layout.{places}
 use Rattle.cert.proofs.Complete.{complete}
 use Rattle.cert.proofs.Unique.{unique}
 use Rattle.cert.proofs.Conforming.{conforming_accepted}
+use Rattle.std.specs.Prelude.{Ok}
 
 -- ---- how long an encoding can be
 few_octets : (n : ℕ) → length (length_bytes n) ≤ 5
@@ -122,7 +122,7 @@ content_few k = omega (arith, encoded_length 48 (certificate_content k))
 
 -- ---- a witness: it is accepted, and its bytes are the encoding of no certificate that is as RFC 5280 demands
 pub record Breaks (Demand : Skeleton → Type 0) (k : Skeleton) : Type 0 where
-  pub accepted : read_certificate (certificate k) true ≡ Accepted (places k)
+  pub accepted : read_certificate (certificate k) true ≡ Ok (places k)
   pub not_conforming : (k' : Skeleton) → certificate k ≡ certificate k' → Demand k' → ⊥
 
 abbrev pub Weaker : Skeleton → Type 0
@@ -133,7 +133,7 @@ module _ (k : Skeleton) (small : weight k + weight_of (listed k.extensions) < 60
   short = omega (arith, content_few k, certificate_few k)
 
   module _ (each : Each true (listed k.extensions)) (once : (n : ℕ) → KnownNumber n → occurs n (listed k.extensions) ≤ 1) where
-    is_accepted : read_certificate (certificate k) true ≡ Accepted (places k)
+    is_accepted : read_certificate (certificate k) true ≡ Ok (places k)
     is_accepted = complete true k (record { short = short; each = each; once = once })
 
     weaker : (Demand : Skeleton → Type 0) → (Demand k → ⊥) → Breaks Demand k
@@ -267,7 +267,7 @@ unfolding certificate certificate_content tbs_certificate tbs_content version ex
 plain_bytes = refl
 
 -- it is accepted as it stands: what follows changes one field each
-pub plain_accepted : read_certificate (certificate plain) true ≡ Accepted (places plain)
+pub plain_accepted : read_certificate (certificate plain) true ≡ Ok (places plain)
 unfolding listed Every
 plain_accepted = conforming_accepted true plain plain_conforming (short plain (lit< tt)) (λ s. tt)
 
@@ -378,7 +378,7 @@ abbrev pub one_of : List ℕ → Criticality → List ℕ → Extension
 one_of i c v = record { identifier = i; critical = c; value = v }
 
 pub list_accepted : (u : List ℕ) (xs : List Extension) → weight (extended u xs) + weight_of xs < 60000 → Each true xs → Distinct xs
-    → read_certificate (certificate (extended u xs)) true ≡ Accepted (places (extended u xs))
+    → read_certificate (certificate (extended u xs)) true ≡ Ok (places (extended u xs))
 unfolding listed
 list_accepted u xs small each once = is_accepted (extended u xs) small each (λ n k. occurs_once n xs once)
 
@@ -462,7 +462,7 @@ d9_empty =
 abbrev points : Skeleton
 points = extended name (one_of (id_ce 31) (written true) (sequence junk) ∷ [])
 
-pub d42 : (read_certificate (certificate points) true ≡ Accepted (places points)) × ((point rest : List ℕ) → sequence junk ≡ sequence (sequence point ++ rest) → ⊥)
+pub d42 : (read_certificate (certificate points) true ≡ Ok (places points)) × ((point rest : List ℕ) → sequence junk ≡ sequence (sequence point ++ rest) → ⊥)
 unfolding Distinct Every sequence
 d42 = (
   list_accepted _ _ (omega (arith, encoded_few 48 junk)) (and_then (known 31 crl_distribution_points (λ e. omega arith) refl junk refl) no_more) (tt, tt),
@@ -570,7 +570,7 @@ d38_empty =
 abbrev unread : Skeleton
 unread = extended name (one_of (id_ce 17) unwritten (sequence junk) ∷ [])
 
-pub d38_unread : (read_certificate (certificate unread) true ≡ Accepted (places unread)) × ((tag : ℕ) (content rest : List ℕ) → tag < 192 → junk ≡ encoding tag content ++ rest → ⊥)
+pub d38_unread : (read_certificate (certificate unread) true ≡ Ok (places unread)) × ((tag : ℕ) (content rest : List ℕ) → tag < 192 → junk ≡ encoding tag content ++ rest → ⊥)
 unfolding Distinct Every
 d38_unread = (
   list_accepted _ _ (omega (arith, sequence_few junk)) (and_then (known 17 subject_alt_name (λ e. omega arith) refl junk refl) no_more) (tt, tt),

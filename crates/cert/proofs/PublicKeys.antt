@@ -9,15 +9,13 @@ use native.Mathlib.Omega.{arith}
 use borrow.Author.Tests.{leb-false}
 use Rattle.refusal.specs.Refusals.{bad_der, trailing_bit_string}
 use Rattle.der.specs.declared.Span.{Span}
-use Rattle.der.specs.declared.Got.TheVariants.{Content, Refused as NoContent}
 use Rattle.der.specs.Places.{Bytes, part, LIMIT}
 use Rattle.der.specs.Model.{expect_at}
 use Rattle.bits.specs.Model.{whole_octets, bits_at}
 use Rattle.der.proofs.Invert.{peel}
 use Rattle.der.proofs.Parts.{part_length}
 use Rattle.values.proofs.SmallValues.{content_inv}
-use Rattle.cert.specs.declared.key.Key.TheVariants.{Parts as KeyParts}
-use Rattle.cert.specs.Model.{key_parts}
+use Rattle.cert.specs.Model.{key_parts, key_is}
 use Rattle.extensions.specs.Rfc5280.{sequence}
 use Rattle.cert.specs.Rfc5280.{bit_string, key_content}
 use Rattle.extensions.specs.Layout.{place_of}
@@ -28,6 +26,7 @@ use Rattle.cert.proofs.Inversion.{key_inv}
 use Rattle.extensions.proofs.Value.{here, here_split, find}
 use Rattle.cert.proofs.Small.{bits_here, bits_found}
 use Rattle.extensions.proofs.Slots.{Within}
+use Rattle.std.specs.Prelude.{Ok, Err}
 
 pub record KeyHere (s : List ℕ) (from to : ℕ) (p q : Span) : Type 0 where
   pub bytes : part s from to ≡ key_content (part s p.start p.end) (part s q.start q.end)
@@ -38,11 +37,11 @@ pub record KeyHere (s : List ℕ) (from to : ℕ) (p q : Span) : Type 0 where
   pub algorithm_short : length (part s p.start p.end) < LIMIT
   pub bits_short : suc (length (part s q.start q.end)) < LIMIT
 
-no_got : {e : ℕ} {p : Span} → NoContent e ≡ Content p → ⊥
+no_got : {e : ℕ} {p : Span} → Err e ≡ Ok p → ⊥
 no_got h = let z : ◌≡◌ {A = ℕ} 0 1 = cc in omega arith
 
 -- the octets, and the one before them, are shorter than the limit
-bits_limit : (s : List ℕ) → Bytes s → (from to : ℕ) (q : Span) → bits_at s from to ≡ Content q → suc (q.end - q.start) < LIMIT
+bits_limit : (s : List ℕ) → Bytes s → (from to : ℕ) (q : Span) → bits_at s from to ≡ Ok q → suc (q.end - q.start) < LIMIT
 unfolding bits_at whole_octets
 bits_limit s b from to q e =
     ⊎_elim
@@ -55,10 +54,10 @@ bits_limit s b from to q e =
     let is : ◌≡◌ {A = Span} (record { start = a.start + 1; end = a.end }) q = cc w.1 in
     rw (← is) (omega (arith, h.small, leb-false a.end a.start v.0)))
     (λ g. absurd (no_got g.2))
-    (content_inv (expect_at s from to 3 trailing_bit_string) NoContent (whole_octets s) e)
+    (content_inv (expect_at s from to 3 trailing_bit_string) Err (whole_octets s) e)
 
 -- SOUND: the bytes are the encoding of the two parts
-pub key_sound : (s : List ℕ) → Bytes s → (from to : ℕ) (p q : Span) → key_parts s from to ≡ KeyParts p q → KeyHere s from to p q
+pub key_sound : (s : List ℕ) → Bytes s → (from to : ℕ) (p q : Span) → key_parts s from to ≡ key_is p q → KeyHere s from to p q
 unfolding key_content sequence
 key_sound s b from to p q e =
     let i = key_inv s from to p q e in
@@ -77,7 +76,7 @@ key_sound s b from to p q e =
 
 -- COMPLETE: the encoding of two parts, each as long as a reader takes, is read, with their places
 pub key_complete : (s : List ℕ) (from to : ℕ) (algorithm bits : List ℕ) → from ≤ to → to ≤ length s → length algorithm < LIMIT → suc (length bits) < LIMIT
-    → part s from to ≡ key_content algorithm bits → key_parts s from to ≡ KeyParts (place_of from algorithm) (bits_of (place_of from algorithm).end bits)
+    → part s from to ≡ key_content algorithm bits → key_parts s from to ≡ key_is (place_of from algorithm) (bits_of (place_of from algorithm).end bits)
 unfolding key_content sequence
 key_complete s from to algorithm bits h l short shorter e =
     let a = find s from to 48 algorithm (bit_string bits) refl short h l e in

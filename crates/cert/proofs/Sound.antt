@@ -13,7 +13,6 @@ use Rattle.der.proofs.Parts.{part_length, part_split, part_whole}
 use Rattle.parts.proofs.Equal.{same_yes}
 use Rattle.extensions.proofs.Sound.{ExtensionsHere, extensions_here}
 use Rattle.cert.specs.declared.Certificate.{Certificate}
-use Rattle.cert.specs.declared.Reading.TheVariants.{Accepted}
 use Rattle.envelope.specs.declared.Envelope.{Envelope}
 use Rattle.envelope.specs.declared.Beginning.{Beginning}
 use Rattle.cert.specs.declared.Fields.{Fields}
@@ -30,6 +29,7 @@ use Rattle.cert.proofs.Inversion.{FieldsAt, read_inv}
 use Rattle.extensions.proofs.Value.{here, here_split}
 use Rattle.cert.proofs.Small.{bits_here, version_here}
 use Rattle.extensions.proofs.Slots.{Within, KnownWithin}
+use Rattle.std.specs.Prelude.{Ok}
 
 -- ---- the outer SEQUENCE
 pub record EnvelopeHere (s : List ℕ) (v : Envelope) (tbs algorithm octets : List ℕ) : Type 0 where
@@ -289,7 +289,7 @@ module _ (s : List ℕ) (strict : Bool) (v : Envelope) (b : Beginning) (f : Fiel
       }
 
 -- SOUND: the bytes are the encoding of a skeleton within the rules, and the places are where its fields lie
-pub sound : (s : List ℕ) → Bytes s → (strict : Bool) (c : Certificate) → read_certificate s strict ≡ Accepted c → Skeletal s strict c
+pub sound : (s : List ℕ) → Bytes s → (strict : Bool) (c : Certificate) → read_certificate s strict ≡ Ok c → Skeletal s strict c
 sound s w strict c h =
     let r = read_inv s strict c h in
     rw r.is

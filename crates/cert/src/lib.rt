@@ -4,9 +4,10 @@
 ghost use Rattle.std.specs.Prelude.{◌≡◌};
 ghost use Rattle.cert.specs.Model.{fields_at, whole_of, read_certificate, read_anchor};
 
-use der::{Got, Span};
-use envelope::{Beginning, Begun, Envelope, Opened};
-use extensions::{Kept, Known, Slot};
+use der::Span;
+use envelope::{Beginning, Envelope};
+use extensions::{Known, Slot};
+use refusal::Refusal;
 
 pub mod key;
 
@@ -25,21 +26,15 @@ pub struct Certificate {
     pub known: Known,
 }
 
-#[derive(Clone, Copy)]
-pub enum Reading {
-    Accepted(Certificate),
-    Refused(u16),
-}
+// What is read of a certificate: the places of its fields, or why it is refused.
+pub type Reading = Result<Certificate, Refusal>;
 
 // What is taken of a certificate that is trusted.
 #[derive(Clone, Copy)]
-pub enum Anchored {
-    Anchor {
-        subject: Span,
-        key: Span,
-        constraints: Slot,
-    },
-    Refused(u16),
+pub struct TrustAnchor {
+    pub subject: Span,
+    pub key: Span,
+    pub constraints: Slot,
 }
 
 #[derive(Clone, Copy)]
@@ -50,33 +45,15 @@ struct Fields {
     key: Span,
 }
 
-#[derive(Clone, Copy)]
-enum Found {
-    All(Fields),
-    Refused(u16),
-}
-
 // Issuer, validity, subject and subject's key, none of them opened: RFC 5280, 4.1.2.4 to 4.1.2.7.
-fn fields_at(s: &[u8], from: usize, to: usize) -> Found
+fn fields_at(s: &[u8], from: usize, to: usize) -> Result<Fields, Refusal>
     ensures { result ≡ fields_at s.now from to }
 {
-    let issuer = match der::expect(s, from, to, 0x30, refusal::BAD_DER) {
-        Got::Content(p) => p,
-        Got::Refused(e) => return Found::Refused(e),
-    };
-    let validity = match der::expect(s, issuer.end, to, 0x30, refusal::BAD_DER) {
-        Got::Content(p) => p,
-        Got::Refused(e) => return Found::Refused(e),
-    };
-    let subject = match der::expect(s, validity.end, to, 0x30, refusal::BAD_DER) {
-        Got::Content(p) => p,
-        Got::Refused(e) => return Found::Refused(e),
-    };
-    let key = match der::expect(s, subject.end, to, 0x30, refusal::BAD_DER) {
-        Got::Content(p) => p,
-        Got::Refused(e) => return Found::Refused(e),
-    };
-    Found::All(Fields {
+    let issuer = der::expect(s, from, to, 0x30, Refusal::BAD_DER)?;
+    let validity = der::expect(s, issuer.end, to, 0x30, Refusal::BAD_DER)?;
+    let subject = der::expect(s, validity.end, to, 0x30, Refusal::BAD_DER)?;
+    let key = der::expect(s, subject.end, to, 0x30, Refusal::BAD_DER)?;
+    Ok(Fields {
         issuer,
         validity,
         subject,
@@ -87,25 +64,16 @@ fn fields_at(s: &[u8], from: usize, to: usize) -> Found
 fn whole(envelope: Envelope, beginning: Beginning, fields: Fields, known: Known) -> Certificate
     ensures { result ≡ whole_of envelope beginning fields known }
 {
-    let signed = envelope.signed;
-    let algorithm = envelope.algorithm;
-    let signature = envelope.signature;
-    let serial = beginning.serial;
-    let inner_algorithm = beginning.algorithm;
-    let issuer = fields.issuer;
-    let validity = fields.validity;
-    let subject = fields.subject;
-    let key = fields.key;
     Certificate {
-        signed,
-        algorithm,
-        signature,
-        serial,
-        inner_algorithm,
-        issuer,
-        validity,
-        subject,
-        key,
+        signed: envelope.signed,
+        algorithm: envelope.algorithm,
+        signature: envelope.signature,
+        serial: beginning.serial,
+        inner_algorithm: beginning.algorithm,
+        issuer: fields.issuer,
+        validity: fields.validity,
+        subject: fields.subject,
+        key: fields.key,
         known,
     }
 }
@@ -114,49 +82,26 @@ fn whole(envelope: Envelope, beginning: Beginning, fields: Fields, known: Known)
 pub fn read(s: &[u8], strict: bool) -> Reading
     ensures { result ≡ read_certificate s.now strict }
 {
-    let envelope = match envelope::envelope_of(s) {
-        Opened::Parts(p) => p,
-        Opened::Refused(e) => return Reading::Refused(e),
-    };
+    let envelope = envelope::envelope_of(s)?;
     let content = envelope.content;
-    let beginning = match envelope::begin(s, content.start, content.end, envelope.algorithm) {
-        Begun::With(p) => p,
-        Begun::Refused(e) => return Reading::Refused(e),
-    };
-    let inner = beginning.algorithm;
-    let fields = match fields_at(s, inner.end, content.end) {
-        Found::All(p) => p,
-        Found::Refused(e) => return Reading::Refused(e),
-    };
-    let key = fields.key;
-    let known = match extensions::all_at(s, key.end, content.end, strict) {
-        Kept::All(k) => k,
-        Kept::Refused(e) => return Reading::Refused(e),
-    };
-    Reading::Accepted(whole(envelope, beginning, fields, known))
+    let beginning = envelope::begin(s, content.start, content.end, envelope.algorithm)?;
+    let fields = fields_at(s, beginning.algorithm.end, content.end)?;
+    let known = extensions::all_at(s, fields.key.end, content.end, strict)?;
+    Ok(whole(envelope, beginning, fields, known))
 }
 
 // Subject, key and name constraints of a certificate that is trusted. Versions before v3 are not read.
-pub fn anchor(s: &[u8]) -> Anchored
+#[tactic(auto, unfolding(crate::specs::Model::read_anchor, crate::specs::Model::anchor_of))]
+pub fn anchor(s: &[u8]) -> Result<TrustAnchor, Refusal>
     ensures { result ≡ read_anchor s.now }
 {
     match read(s, false) {
-        Reading::Accepted(c) => {
-            let subject = c.subject;
-            let key = c.key;
-            let known = c.known;
-            let constraints = known.name_constraints;
-            Anchored::Anchor {
-                subject,
-                key,
-                constraints,
-            }
-        }
-        Reading::Refused(e) => {
-            if e == refusal::UNSUPPORTED_CERT_VERSION {
-                return Anchored::Refused(refusal::BAD_DER);
-            }
-            Anchored::Refused(e)
-        }
+        Ok(c) => Ok(TrustAnchor {
+            subject: c.subject,
+            key: c.key,
+            constraints: c.known.name_constraints,
+        }),
+        Err(Refusal::UNSUPPORTED_CERT_VERSION) => Err(Refusal::BAD_DER),
+        Err(e) => Err(e),
     }
 }

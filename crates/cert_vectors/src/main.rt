@@ -7,10 +7,10 @@
 //   k  a key: its algorithm and its bits
 #![tactic(auto)]
 
-use cert::key::Key;
-use cert::{Anchored, Reading, key};
+use cert::key;
 use der::Span;
 use extensions::{Known, Slot};
+use refusal::Refusal;
 use std::io;
 use std::io::{BufWriter, Write};
 
@@ -18,26 +18,26 @@ fn put(to: &mut impl Write, text: &[u8]) -> io::Result<()> {
     to.write_all(text)
 }
 
-fn refused(to: &mut impl Write, refusal: u16) -> io::Result<()> {
+fn refused(to: &mut impl Write, refusal: Refusal) -> io::Result<()> {
     match refusal {
-        refusal::BAD_DER => put(to, b" BadDer"),
-        refusal::SIGNATURE_ALGORITHM_MISMATCH => put(to, b" SignatureAlgorithmMismatch"),
-        refusal::UNSUPPORTED_CERT_VERSION => put(to, b" UnsupportedCertVersion"),
-        refusal::UNSUPPORTED_CRITICAL_EXTENSION => put(to, b" UnsupportedCriticalExtension"),
-        refusal::EXTENSION_VALUE_INVALID => put(to, b" ExtensionValueInvalid"),
-        refusal::TRAILING_SIGNED_DATA => put(to, b" TrailingData(SignedData)"),
-        refusal::TRAILING_CERTIFICATE => put(to, b" TrailingData(Certificate)"),
-        refusal::TRAILING_CERTIFICATE_TBS_CERTIFICATE => {
+        Refusal::BAD_DER => put(to, b" BadDer"),
+        Refusal::SIGNATURE_ALGORITHM_MISMATCH => put(to, b" SignatureAlgorithmMismatch"),
+        Refusal::UNSUPPORTED_CERT_VERSION => put(to, b" UnsupportedCertVersion"),
+        Refusal::UNSUPPORTED_CRITICAL_EXTENSION => put(to, b" UnsupportedCriticalExtension"),
+        Refusal::EXTENSION_VALUE_INVALID => put(to, b" ExtensionValueInvalid"),
+        Refusal::TRAILING_SIGNED_DATA => put(to, b" TrailingData(SignedData)"),
+        Refusal::TRAILING_CERTIFICATE => put(to, b" TrailingData(Certificate)"),
+        Refusal::TRAILING_CERTIFICATE_TBS_CERTIFICATE => {
             put(to, b" TrailingData(CertificateTbsCertificate)")
         }
-        refusal::TRAILING_CERTIFICATE_EXTENSIONS => put(
+        Refusal::TRAILING_CERTIFICATE_EXTENSIONS => put(
             to,
             b" TrailingData(CertificateExtensions)",
         ),
-        refusal::TRAILING_EXTENSION => put(to, b" TrailingData(Extension)"),
-        refusal::TRAILING_BIT_STRING => put(to, b" TrailingData(BitString)"),
-        refusal::TRAILING_BOOL => put(to, b" TrailingData(Bool)"),
-        refusal::TRAILING_SUBJECT_PUBLIC_KEY_INFO => put(
+        Refusal::TRAILING_EXTENSION => put(to, b" TrailingData(Extension)"),
+        Refusal::TRAILING_BIT_STRING => put(to, b" TrailingData(BitString)"),
+        Refusal::TRAILING_BOOL => put(to, b" TrailingData(Bool)"),
+        Refusal::TRAILING_SUBJECT_PUBLIC_KEY_INFO => put(
             to,
             b" TrailingData(SubjectPublicKeyInfo)",
         ),
@@ -46,20 +46,20 @@ fn refused(to: &mut impl Write, refusal: u16) -> io::Result<()> {
 }
 
 // The letter of a refusal.
-fn letter(to: &mut impl Write, refusal: u16) -> io::Result<()> {
+fn letter(to: &mut impl Write, refusal: Refusal) -> io::Result<()> {
     match refusal {
-        refusal::BAD_DER => put(to, b"D"),
-        refusal::SIGNATURE_ALGORITHM_MISMATCH => put(to, b"A"),
-        refusal::UNSUPPORTED_CERT_VERSION => put(to, b"V"),
-        refusal::UNSUPPORTED_CRITICAL_EXTENSION => put(to, b"U"),
-        refusal::EXTENSION_VALUE_INVALID => put(to, b"I"),
-        refusal::TRAILING_SIGNED_DATA => put(to, b"S"),
-        refusal::TRAILING_CERTIFICATE => put(to, b"C"),
-        refusal::TRAILING_CERTIFICATE_TBS_CERTIFICATE => put(to, b"T"),
-        refusal::TRAILING_CERTIFICATE_EXTENSIONS => put(to, b"X"),
-        refusal::TRAILING_EXTENSION => put(to, b"E"),
-        refusal::TRAILING_BIT_STRING => put(to, b"B"),
-        refusal::TRAILING_BOOL => put(to, b"L"),
+        Refusal::BAD_DER => put(to, b"D"),
+        Refusal::SIGNATURE_ALGORITHM_MISMATCH => put(to, b"A"),
+        Refusal::UNSUPPORTED_CERT_VERSION => put(to, b"V"),
+        Refusal::UNSUPPORTED_CRITICAL_EXTENSION => put(to, b"U"),
+        Refusal::EXTENSION_VALUE_INVALID => put(to, b"I"),
+        Refusal::TRAILING_SIGNED_DATA => put(to, b"S"),
+        Refusal::TRAILING_CERTIFICATE => put(to, b"C"),
+        Refusal::TRAILING_CERTIFICATE_TBS_CERTIFICATE => put(to, b"T"),
+        Refusal::TRAILING_CERTIFICATE_EXTENSIONS => put(to, b"X"),
+        Refusal::TRAILING_EXTENSION => put(to, b"E"),
+        Refusal::TRAILING_BIT_STRING => put(to, b"B"),
+        Refusal::TRAILING_BOOL => put(to, b"L"),
         _ => put(to, b"?"),
     }
 }
@@ -70,15 +70,10 @@ fn span(to: &mut impl Write, p: Span) -> io::Result<()> {
 
 fn slot(to: &mut impl Write, x: Slot) -> io::Result<()> {
     if x.known {
-        return span(
-            to,
-            Span {
-                start: x.start,
-                end: x.end,
-            },
-        );
+        write!(to, " {}-{}", x.start, x.end)
+    } else {
+        put(to, b" -")
     }
-    put(to, b" -")
 }
 
 fn slots(to: &mut impl Write, k: Known) -> io::Result<()> {
@@ -92,7 +87,7 @@ fn slots(to: &mut impl Write, k: Known) -> io::Result<()> {
 
 fn show(to: &mut impl Write, s: &[u8]) -> io::Result<()> {
     match cert::read(s, true) {
-        Reading::Accepted(c) => {
+        Ok(c) => {
             put(to, b"ok")?;
             span(to, c.signed)?;
             span(to, c.algorithm)?;
@@ -105,33 +100,29 @@ fn show(to: &mut impl Write, s: &[u8]) -> io::Result<()> {
             span(to, c.key)?;
             slots(to, c.known)?;
         }
-        Reading::Refused(e) => refused(to, e)?,
+        Err(e) => refused(to, e)?,
     }
     put(to, b" |")?;
     match cert::anchor(s) {
-        Anchored::Anchor {
-            subject,
-            key,
-            constraints,
-        } => {
+        Ok(anchor) => {
             put(to, b" ok")?;
-            span(to, subject)?;
-            span(to, key)?;
-            slot(to, constraints)?;
+            span(to, anchor.subject)?;
+            span(to, anchor.key)?;
+            slot(to, anchor.constraints)?;
         }
-        Anchored::Refused(e) => refused(to, e)?,
+        Err(e) => refused(to, e)?,
     }
     put(to, b"\n")
 }
 
 fn show_key(to: &mut impl Write, s: &[u8]) -> io::Result<()> {
     match key::parts(s, 0, s.len()) {
-        Key::Parts { algorithm, bits } => {
+        Ok(key) => {
             put(to, b"ok")?;
-            span(to, algorithm)?;
-            span(to, bits)?;
+            span(to, key.algorithm)?;
+            span(to, key.bits)?;
         }
-        Key::Refused(e) => refused(to, e)?,
+        Err(e) => refused(to, e)?,
     }
     put(to, b"\n")
 }
@@ -162,7 +153,7 @@ fn digit_of_slots(sum: u64, k: Known) -> u64 {
 
 fn brief(to: &mut impl Write, s: &[u8]) -> io::Result<()> {
     match cert::read(s, true) {
-        Reading::Accepted(x) => {
+        Ok(x) => {
             let a = mix(0, x.signed);
             let b = mix(a, x.algorithm);
             let c = mix(b, x.signature);
@@ -174,22 +165,18 @@ fn brief(to: &mut impl Write, s: &[u8]) -> io::Result<()> {
             let i = mix(h, x.key);
             write!(to, "{}", digit_of_slots(i, x.known))
         }
-        Reading::Refused(e) => letter(to, e),
+        Err(e) => letter(to, e),
     }
 }
 
 fn brief_anchor(to: &mut impl Write, s: &[u8]) -> io::Result<()> {
     match cert::anchor(s) {
-        Anchored::Anchor {
-            subject,
-            key,
-            constraints,
-        } => {
-            let a = mix(0, subject);
-            let b = mix(a, key);
-            write!(to, "{}", mix_slot(b, constraints))
+        Ok(anchor) => {
+            let a = mix(0, anchor.subject);
+            let b = mix(a, anchor.key);
+            write!(to, "{}", mix_slot(b, anchor.constraints))
         }
-        Anchored::Refused(e) => letter(to, e),
+        Err(e) => letter(to, e),
     }
 }
 
@@ -205,21 +192,17 @@ fn flip_byte(to: &mut impl Write, s: &mut [u8], at: usize) -> io::Result<()> {
         return Ok(());
     }
     let byte = s[at];
-    let mut bit: u8 = 128;
-    while 0 < bit {
-        s[at] = byte ^ bit;
+    for bit in 0..8u32 {
+        s[at] = byte ^ (128 >> bit);
         both(to, s)?;
-        bit = bit / 2;
     }
     s[at] = byte;
     Ok(())
 }
 
 fn flips(to: &mut impl Write, s: &mut [u8]) -> io::Result<()> {
-    let mut at = 0;
-    while at < s.len() {
+    for at in 0..s.len() {
         flip_byte(to, s, at)?;
-        at += 1;
     }
     put(to, b"\n")
 }
@@ -232,10 +215,8 @@ fn prefix(to: &mut impl Write, s: &[u8], n: usize) -> io::Result<()> {
 }
 
 fn prefixes(to: &mut impl Write, s: &[u8]) -> io::Result<()> {
-    let mut n = 0;
-    while n < s.len() {
+    for n in 0..s.len() {
         prefix(to, s, n)?;
-        n += 1;
     }
     put(to, b"\n")
 }

@@ -6,7 +6,6 @@ use mathlib.Core.List.{List}
 use mathlib.Core.Bool.{Bool, true}
 use Rattle.der.specs.Places.{Bytes}
 use Rattle.cert.specs.declared.Certificate.{Certificate}
-use Rattle.cert.specs.declared.Reading.TheVariants.{Accepted}
 use Rattle.cert.specs.Model.{read_certificate}
 use Rattle.cert.proofs.Laws.{read_inside}
 use Rattle.checks.specs.Conditions.{Role, InValidity, InRole, ForPurpose}
@@ -15,8 +14,9 @@ use Rattle.checks.proofs.Contents.{contents_of}
 use Rattle.checks.proofs.Valid.{valid_sound, valid_complete}
 use Rattle.checks.proofs.Roles.{first_zero, zero_first, is_issuer, below_of, role_sound, role_complete}
 use Rattle.checks.proofs.Purposed.{purposes_sound, purposes_complete}
+use Rattle.std.specs.Prelude.{Ok}
 
-module _ (s : List ℕ) (b : Bytes s) (c : Certificate) (r : read_certificate s true ≡ Accepted c) (time : ℕ) (wanted : List ℕ) (demanded : Bool) (role : Role) where
+module _ (s : List ℕ) (b : Bytes s) (c : Certificate) (r : read_certificate s true ≡ Ok c) (time : ℕ) (wanted : List ℕ) (demanded : Bool) (role : Role) where
   -- the three conditions, on the contents that were read
   abbrev pub Alone : Type 0
   Alone =

@@ -6,10 +6,10 @@ use mathlib.Core.Bool.{Bool, true, cond}
 use Rattle.der.specs.declared.Span.{Span}
 use Rattle.der.specs.Places.{part}
 use Rattle.cert.specs.declared.Certificate.{Certificate}
-use Rattle.cert.specs.declared.Reading.TheVariants.{Accepted}
 use Rattle.extensions.specs.declared.Slot.{Slot}
 use Rattle.cert.specs.Model.{read_certificate}
 use Rattle.checks.specs.Conditions.{Optional, absent, present, Contents}
+use Rattle.std.specs.Prelude.{Ok}
 
 abbrev pub at : List ℕ → Span → List ℕ
 at s p = part s p.start p.end
@@ -36,4 +36,4 @@ contents_of s c =
 
 -- the bytes are a certificate with these contents
 abbrev pub Reads : List ℕ → Contents → Type 0
-Reads s o = (c : Certificate) × (read_certificate s true ≡ Accepted c) × (contents_of s c ≡ o)
+Reads s o = (c : Certificate) × (read_certificate s true ≡ Ok c) × (contents_of s c ≡ o)

@@ -22,7 +22,6 @@ use Rattle.extensions.specs.Layout.{place_of, absent, there, header, value_of, k
 use Rattle.extensions.specs.Conforming.{Distinct}
 use Rattle.extensions.specs.Accepted.{ext_key_usage, usage as of_usage, known, none as no_more, more as and_then}
 use Rattle.cert.specs.declared.Certificate.{Certificate}
-use Rattle.cert.specs.declared.Reading.TheVariants.{Accepted}
 use Rattle.cert.specs.Model.{read_certificate}
 use Rattle.cert.specs.Rfc5280.{integer, bit_string, Skeleton, version, tbs_content, tbs_certificate, certificate_content, certificate}
 use Rattle.cert.specs.Layout.{places}
@@ -33,6 +32,7 @@ use Rattle.checks.specs.Conforming.{KeyPurposes, last, more, Bounds, ServerUsage
 use Rattle.checks.specs.Model.{in_role, first_of, on_number, bounded_role, basic_in, purpose_step, purpose_in, own_of, valid_at, on_time, in_time, basic_of, purposes_of}
 use Rattle.checks.specs.Skeletons.{value_in}
 use Rattle.extensions.proofs.Numbers.{false_true}
+use Rattle.std.specs.Prelude.{Ok}
 
 -- ---- key purposes
 no_purpose_lem : (x : ℕ) (xs : List ℕ) → (x ≡ 6 → ⊥) → KeyPurposes (x ∷ xs) → ⊥
@@ -146,7 +146,7 @@ unfolding own_of first_of valid_at on_time in_time time_at is_utc utc_at utc_in 
 own_good = refl
 
 -- it is read, and the checks find nothing against it at the time 1700000000, as an end entity for server authentication; that is no purpose its key usage allows
-pub d60_lists : (read_certificate (certificate listing) true ≡ Accepted (places listing)) × (own_of (certificate listing) (places listing) 1700000000 server_auth true false 0 ≡ 0)
+pub d60_lists : (read_certificate (certificate listing) true ≡ Ok (places listing)) × (own_of (certificate listing) (places listing) 1700000000 server_auth true false 0 ≡ 0)
     × (ServerUsage (value_in 15 (listed listing.extensions)) → ⊥)
 unfolding listed Every Distinct sequence encoding length_bytes value_in is_number same_list bit
 d60_lists = (

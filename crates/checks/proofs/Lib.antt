@@ -1,4 +1,5 @@
 pub mod Refusals
+pub mod Outcomes
 pub mod Contents
 pub mod Skeletons
 pub mod Purposed

@@ -11,8 +11,6 @@ use native.Mathlib.Omega.{arith}
 use borrow.Author.Tests.{lt-ltb, ne_eqb}
 use Rattle.refusal.specs.Refusals.{bad_der}
 use Rattle.der.specs.declared.Span.{Span}
-use Rattle.der.specs.declared.Got.{Got}
-use Rattle.der.specs.declared.Got.TheVariants.{Content, Refused as NoContent}
 use Rattle.der.specs.Places.{Bytes, part, LIMIT}
 use Rattle.der.specs.X690.{encoding}
 use Rattle.der.specs.Model.{high_tag, expect_at, on_content}
@@ -28,35 +26,36 @@ use Rattle.checks.specs.Conditions.{Lists, here, later, ForPurpose}
 use Rattle.checks.specs.Model.{itself, purpose_step, no_purpose, purpose_in, purposes_of}
 use Rattle.checks.proofs.Contents.{found}
 use Rattle.extensions.proofs.Refusals.{GotFair, got_is, got_not, expect_fair}
+use Rattle.std.specs.Prelude.{Ok, Err, Result}
 
 module _ (s : List ℕ) (to at : ℕ) where
-  pub step_later : (p : Span) → expect_at s at to 6 bad_der ≡ Content p → (at < p.end) × (p.end ≤ to)
+  pub step_later : (p : Span) → expect_at s at to 6 bad_der ≡ Ok p → (at < p.end) × (p.end ≤ to)
   step_later p e = let v = value_places s at to 6 p.start p.end (expect_value s at to 6 bad_der p e) in omega arith
 
   module _ (wanted : List ℕ) where
-    pub step_next : {p : Span} → expect_at s at to 6 bad_der ≡ Content p → same_parts s p.start p.end wanted 0 (length wanted) ≡ false → (k : ℕ → Unit {0} → ℕ) → purpose_step s to wanted at k ≡ k p.end tt
+    pub step_next : {p : Span} → expect_at s at to 6 bad_der ≡ Ok p → same_parts s p.start p.end wanted 0 (length wanted) ≡ false → (k : ℕ → Unit {0} → ℕ) → purpose_step s to wanted at k ≡ k p.end tt
     unfolding purpose_step on_content
     step_next e f k = rw (e, f)
 
-    pub step_found : {p : Span} → expect_at s at to 6 bad_der ≡ Content p → same_parts s p.start p.end wanted 0 (length wanted) ≡ true → (k : ℕ → Unit {0} → ℕ) → purpose_step s to wanted at k ≡ 0
+    pub step_found : {p : Span} → expect_at s at to 6 bad_der ≡ Ok p → same_parts s p.start p.end wanted 0 (length wanted) ≡ true → (k : ℕ → Unit {0} → ℕ) → purpose_step s to wanted at k ≡ 0
     unfolding purpose_step on_content
     step_found e f k = rw (e, f)
 
-    pub step_refused : {x : ℕ} → expect_at s at to 6 bad_der ≡ NoContent x → (k : ℕ → Unit {0} → ℕ) → purpose_step s to wanted at k ≡ x
+    pub step_refused : {x : ℕ} → expect_at s at to 6 bad_der ≡ Err x → (k : ℕ → Unit {0} → ℕ) → purpose_step s to wanted at k ≡ x
     unfolding purpose_step on_content
     step_refused e k = rw e
 
 -- ---- the walk finds the purpose exactly if it is listed
-gone_on : (g : Got) (k : ℕ → ℕ → ℕ) → GotFair g → on_content g itself k ≡ 0 → (p : Span) × (g ≡ Content p) × (k p.start p.end ≡ 0)
+gone_on : (g : Result Span ℕ) (k : ℕ → ℕ → ℕ) → GotFair g → on_content g itself k ≡ 0 → (p : Span) × (g ≡ Ok p) × (k p.start p.end ≡ 0)
 unfolding on_content
-gone_on (Content p) k (got_is q) e = (p, refl, e)
-gone_on (NoContent x) k (got_not f) e = absurd (omega arith)
+gone_on (Ok p) k (got_is q) e = (p, refl, e)
+gone_on (Err x) k (got_not f) e = absurd (omega arith)
 
 module _ (s : List ℕ) (b : Bytes s) (to : ℕ) (wanted : List ℕ) where
   abbrev walked : ℕ → ℕ → ℕ
   walked fuel at = run to no_purpose (λ a u. purpose_step s to wanted a) fuel at tt
 
-  lists_step : (at : ℕ) (p : Span) → expect_at s at to 6 bad_der ≡ Content p → (part s at to ≡ encoding 6 (part s p.start p.end) ++ part s p.end to) × (length (part s p.start p.end) < LIMIT)
+  lists_step : (at : ℕ) (p : Span) → expect_at s at to 6 bad_der ≡ Ok p → (part s at to ≡ encoding 6 (part s p.start p.end) ++ part s p.end to) × (length (part s p.start p.end) < LIMIT)
   lists_step at p e =
       let l = expect_laid s b at to 6 bad_der p e in
       let n = part_length s p.start p.end (omega (arith, l.inside, l.within)) in
@@ -89,7 +88,7 @@ module _ (s : List ℕ) (b : Bytes s) (to : ℕ) (wanted : List ℕ) where
   -- an encoding at a place before `to` is read there
   record Read (at : ℕ) (content rest : List ℕ) : Type 0 where
     pub p : Span
-    pub found : expect_at s at to 6 bad_der ≡ Content p
+    pub found : expect_at s at to 6 bad_der ≡ Ok p
     pub is : part s p.start p.end ≡ content
     pub after : at < p.end
     pub inside : p.end ≤ to

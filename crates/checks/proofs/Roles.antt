@@ -10,11 +10,7 @@ use native.Mathlib.Omega.{arith}
 use borrow.Author.Tests.{ltb-false, eqb-true, eqb-false, eq-eqb, ne_eqb}
 use Rattle.der.specs.Places.{Bytes, part}
 use Rattle.der.specs.X690.{encoding, truth}
-use Rattle.values.specs.declared.Truth.{Truth}
-use Rattle.values.specs.declared.Truth.TheVariants.{Is as Said, Refused as NoTruth}
-use Rattle.values.specs.declared.Small.{Small}
-use Rattle.values.specs.declared.Small.TheVariants.{Number, Refused as NoNumber}
-use Rattle.values.specs.Model.{read_bool, read_small}
+use Rattle.values.specs.Model.{read_bool, read_small, truth_is, number_is}
 use Rattle.der.proofs.Laws.{tests}
 use Rattle.der.proofs.Invert.{either}
 use Rattle.der.proofs.Parts.{part_length, part_split, part_none, part_front, part_tail}
@@ -23,8 +19,9 @@ use Rattle.checks.specs.Conditions.{Authority, unwritten, written, Bound, unboun
 use Rattle.checks.proofs.Contents.{found}
 use Rattle.extensions.specs.Model.{on_truth}
 use Rattle.checks.specs.Model.{in_role, first_of, on_number, itself, bounded_role, basic_in, basic_of}
-use Rattle.extensions.proofs.Refusals.{TruthFair, truth_is, truth_not, bool_fair}
+use Rattle.extensions.proofs.Refusals.{TruthFair, truth_said, truth_not, bool_fair}
 use Rattle.cert.proofs.Refusals.{SmallFair, small_is as small_number, small_not, small_fair}
+use Rattle.std.specs.Prelude.{Err, Ok, Result}
 
 pub first_zero : (d e : ℕ) → first_of d e ≡ 0 → (d ≡ 0) × (e ≡ 0)
 unfolding first_of
@@ -42,7 +39,7 @@ role_inv true true limit below e =
     (refl, λ h. ⊎_elim (λ w. absurd (let z = w.1 in omega arith)) (λ w. ltb-false _ _ w.0) (either (ltb limit below) e))
 role_inv true false limit below e = absurd (omega arith)
 role_inv false true limit below e = absurd (omega arith)
-role_inv false false limit below e = (refl, λ h. absurd (let z : ◌≡◌ {A = ℕ} 0 1 = cc in omega arith))
+role_inv false false limit below e = (refl, λ h. cc h)
 
 role_case : (i : Bool) (limit below : ℕ) → (i ≡ true → below ≤ limit) → in_role i i limit below ≡ 0
 unfolding in_role
@@ -50,15 +47,15 @@ role_case true limit below h = let l : below ≤ limit = h refl in search tests
 role_case false limit below h = refl
 
 -- ---- sound
-numbered : (g : Small) (k : ℕ → ℕ → ℕ) → SmallFair g → on_number g itself k ≡ 0 → (n : ℕ) × (next : ℕ) × (g ≡ Number n next) × (k n next ≡ 0)
+numbered : (g : Result (ℕ × ℕ) ℕ) (k : ℕ → ℕ → ℕ) → SmallFair g → on_number g itself k ≡ 0 → (n : ℕ) × (next : ℕ) × (g ≡ number_is n next) × (k n next ≡ 0)
 unfolding on_number
-numbered (Number n next) k (small_number a b) e = (n, next, refl, e)
-numbered (NoNumber x) k (small_not f) e = absurd (omega arith)
+numbered (Ok v) k (small_number a b) e = (v.0, v.1, refl, e)
+numbered (Err x) k (small_not f) e = absurd (omega arith)
 
-told : (g : Truth) (k : Bool → ℕ → ℕ) → TruthFair g → on_truth g itself k ≡ 0 → (a : Bool) × (next : ℕ) × (g ≡ Said a next) × (k a next ≡ 0)
+told : (g : Result (Bool × ℕ) ℕ) (k : Bool → ℕ → ℕ) → TruthFair g → on_truth g itself k ≡ 0 → (a : Bool) × (next : ℕ) × (g ≡ truth_is a next) × (k a next ≡ 0)
 unfolding on_truth
-told (Said a next) k (truth_is b c) e = (a, next, refl, e)
-told (NoTruth x) k (truth_not f) e = absurd (omega arith)
+told (Ok v) k (truth_said b c) e = (v.0, v.1, refl, e)
+told (Err x) k (truth_not f) e = absurd (omega arith)
 
 -- a BOOLEAN that was read, or none
 record Told (s : List ℕ) (from to next : ℕ) (a : Bool) : Type 0 where
@@ -77,7 +74,7 @@ there_told s from to next a t =
     let l = some_bytes s from next 1 _ (omega (arith, t.within, t.inside)) t.bytes in
     record { ordered = omega arith; inside = t.inside; within = t.within; says = written t.bytes }
 
-said_told : (s : List ℕ) → Bytes s → (from to next : ℕ) (a : Bool) → from ≤ to → read_bool s from to ≡ Said a next → Told s from to next a
+said_told : (s : List ℕ) → Bytes s → (from to next : ℕ) (a : Bool) → from ≤ to → read_bool s from to ≡ truth_is a next → Told s from to next a
 said_told s b from to next true h e = there_told s from to next true (true_is s b from to next e)
 said_told s b from to next false h e =
     ⊎_elim
@@ -140,7 +137,7 @@ first_octet s from to tag content l e =
     (h, (part_tail s from to tag _ h l e).0)
 
 -- the BOOLEAN is read again; where none is written, what follows begins with another tag or is not there
-told_said : (s : List ℕ) (from to next : ℕ) (a : Bool) (bound : Bound) → from ≤ next → next ≤ to → to ≤ length s → Authority (part s from next) a → PathLength (part s next to) bound → read_bool s from to ≡ Said a next
+told_said : (s : List ℕ) (from to next : ℕ) (a : Bool) (bound : Bound) → from ≤ next → next ≤ to → to ≤ length s → Authority (part s from next) a → PathLength (part s next to) bound → read_bool s from to ≡ truth_is a next
 told_said s from to next a bound h k l (written e) q = is_bool s from to next a (record { within = l; inside = k; bytes = e })
 told_said s from to next a bound h k l (unwritten e z) q =
     let n : next ≡ from = omega (arith, sym (part_length s from next (omega arith)) ∙ ap length e) in
@@ -164,7 +161,7 @@ limits_case s b next to i below bound k l (none e g) r =
     simp (eq-eqb next to n) (role_case i below below (λ j. omega arith))
 limits_case s b next to i below bound k l (some n content m q e g) r =
     let o = first_octet s next to 2 content l e in
-    let c : read_small s next to ≡ Number n to = is_small s b next to n to content m q (record { within = l; inside = omega arith; bytes = e }) in
+    let c : read_small s next to ≡ number_is n to = is_small s b next to n to content m q (record { within = l; inside = omega arith; bytes = e }) in
     let y : in_role i i n below ≡ 0 = role_case i n below (λ j. let z : Allows (at_most n) below = rw g at (r j) in omega arith) in
     simp (ne_eqb next to (λ x. omega arith), c, eq-eqb to to refl) (zero_first (in_role i i n below) 0 y refl)
 
@@ -175,7 +172,7 @@ basic_in_complete s b from to i below bound h l v r =
     let f = part_front s from to v.first v.second h l v.whole in
     let next = from + length v.first in
     let q : PathLength (part s next to) bound = rw f.2 v.limits in
-    let a : read_bool s from to ≡ Said i next = told_said s from to next i bound (omega arith) f.0 l (rw f.1 v.says) q in
+    let a : read_bool s from to ≡ truth_is i next = told_said s from to next i bound (omega arith) f.0 l (rw f.1 v.says) q in
     rw a (limits_case s b next to i below bound f.0 l q r)
 
 -- ---- with and without the extension

@@ -10,7 +10,6 @@ use Rattle.der.specs.Places.{Bytes, part, LIMIT}
 use Rattle.der.specs.X690.{encoding}
 use Rattle.der.proofs.Parts.{part_front, part_whole}
 use Rattle.parts.proofs.Equal.{same_true}
-use Rattle.cert.specs.declared.Reading.TheVariants.{Accepted}
 use Rattle.extensions.specs.declared.Slot.{Slot}
 use Rattle.cert.specs.Model.{read_certificate}
 use Rattle.extensions.specs.Accepted.{KnownNumber, basic_constraints, ext_key_usage, subject_alt_name, name_constraints, Taken, usage, known, other, Each, more}
@@ -27,6 +26,7 @@ use Rattle.extensions.proofs.Unique.{encoding_once}
 use Rattle.checks.specs.Conditions.{Optional, absent, present, Contents}
 use Rattle.checks.proofs.Contents.{slot_at, contents_of, Reads}
 use Rattle.checks.specs.Skeletons.{value_in, InSequence, Describes, IsCertificate}
+use Rattle.std.specs.Prelude.{Ok}
 
 -- the slot of extension n of those that are encoded at `at`
 abbrev slot_in : ℕ → ℕ → Extensions → Slot
@@ -252,5 +252,5 @@ contents_once k rules o p d e =
 pub certificate_reads : (s : List ℕ) (o : Contents) → IsCertificate s o → Reads s o
 certificate_reads s o x =
     let k = x.k in
-    let e : read_certificate s true ≡ Accepted (places k) = rw x.bytes (complete true k x.rules) in
+    let e : read_certificate s true ≡ Ok (places k) = rw x.bytes (complete true k x.rules) in
     (places k, e, contents_once k x.rules (contents_of s (places k)) o (laid s k x.bytes x.rules) x.describes)

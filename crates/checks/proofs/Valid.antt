@@ -11,15 +11,14 @@ use Rattle.der.specs.Places.{Bytes, part}
 use Rattle.der.proofs.Laws.{tests}
 use Rattle.der.proofs.Invert.{peel, either}
 use Rattle.der.proofs.Parts.{part_split, part_front}
-use Rattle.moment.specs.declared.Time.{Time}
-use Rattle.moment.specs.declared.Time.TheVariants.{At, Refused as NoTime}
 use Rattle.moment.specs.Calendar.{utc, generalized}
-use Rattle.moment.specs.Model.{time_at}
+use Rattle.moment.specs.Model.{time_at, time_is}
 use Rattle.moment.proofs.Sound.{time_places, accepted_is_time}
 use Rattle.moment.proofs.Complete.{time_is_accepted}
 use Rattle.checks.specs.Conditions.{IsMoment, InValidity}
 use Rattle.checks.specs.Model.{in_time, on_time, itself, valid_at}
-use Rattle.checks.proofs.Refusals.{TimeFair, time_is, time_not, time_fair}
+use Rattle.checks.proofs.Refusals.{TimeFair, time_said, time_not, time_fair}
+use Rattle.std.specs.Prelude.{Err, Ok, Result}
 
 record Within (start last time next to : ℕ) : Type 0 where
   pub begun : start ≤ time
@@ -39,10 +38,10 @@ within start last time next to e =
     }
 
 -- a time that was gone on from
-timed : (g : Time) (k : ℕ → ℕ → ℕ) → TimeFair g → on_time g itself k ≡ 0 → (n : ℕ) × (next : ℕ) × (g ≡ At n next) × (k n next ≡ 0)
+timed : (g : Result (ℕ × ℕ) ℕ) (k : ℕ → ℕ → ℕ) → TimeFair g → on_time g itself k ≡ 0 → (n : ℕ) × (next : ℕ) × (g ≡ time_is n next) × (k n next ≡ 0)
 unfolding on_time
-timed (At n next) k (time_is a b) e = (n, next, refl, e)
-timed (NoTime x) k (time_not f) e = absurd (omega arith)
+timed (Ok v) k (time_said a b) e = (v.0, v.1, refl, e)
+timed (Err x) k (time_not f) e = absurd (omega arith)
 
 pub valid_sound : (s : List ℕ) → Bytes s → (from to time : ℕ) → valid_at s from to time ≡ 0 → InValidity (part s from to) time
 unfolding valid_at
@@ -64,7 +63,7 @@ valid_sound s b from to time e =
       lasting = w.lasting;
     }
 
-found : (s : List ℕ) (from to n next : ℕ) → next ≤ to → to ≤ length s → IsMoment (part s from next) n → time_at s from to ≡ At n next
+found : (s : List ℕ) (from to n next : ℕ) → next ≤ to → to ≤ length s → IsMoment (part s from next) n → time_at s from to ≡ time_is n next
 found s from to n next h l m =
     ⊎_elim (time_is_accepted utc s from to n next h l) (time_is_accepted generalized s from to n next h l) m
 
@@ -73,8 +72,8 @@ unfolding valid_at on_time in_time
 valid_complete s from to time h l v =
     let f = part_front s from to v.first v.second h l v.whole in
     let middle = from + length v.first in
-    let a : time_at s from to ≡ At v.not_before middle = found s from to v.not_before middle f.0 l (rw f.1 v.begins) in
-    let c : time_at s middle to ≡ At v.not_after to = found s middle to v.not_after to (omega arith) l (rw f.2 v.ends) in
+    let a : time_at s from to ≡ time_is v.not_before middle = found s from to v.not_before middle f.0 l (rw f.1 v.begins) in
+    let c : time_at s middle to ≡ time_is v.not_after to = found s middle to v.not_after to (omega arith) l (rw f.2 v.ends) in
     let lo : v.not_before ≤ time = v.begun in
     let hi : time ≤ v.not_after = v.lasting in
     let lohi : v.not_before ≤ v.not_after = omega arith in

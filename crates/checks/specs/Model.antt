@@ -1,15 +1,11 @@
 -- What the code answers of one certificate by itself, as functions of its bytes and of what was read of them: the same tests in the same order. Where a
 -- number is a refusal or none, 0 is none.
-use Rattle.std.specs.Prelude.{ℕ, List, Bool, false, cond, length, ltb, eqb}
+use Rattle.std.specs.Prelude.{ℕ, List, Bool, false, cond, length, ltb, eqb, Err, Ok, Result}
 use Rattle.refusal.specs.Refusals.{bad_der, invalid_cert_validity, cert_not_valid_yet, cert_expired, path_len_constraint_violated, end_entity_used_as_ca, ca_used_as_end_entity, empty_eku_extension, required_eku_not_found}
-use Rattle.values.specs.declared.Small.{Small}
-use Rattle.values.specs.declared.Small.TheVariants.{Number, Refused as NoNumber}
 use Rattle.der.specs.Model.{expect_at, on_content}
 use Rattle.parts.specs.Model.{same_parts}
 use Rattle.values.specs.Model.{read_small, read_bool}
 use Rattle.der.specs.Loop.{walk}
-use Rattle.moment.specs.declared.Time.{Time}
-use Rattle.moment.specs.declared.Time.TheVariants.{At, Refused as NoTime}
 use Rattle.moment.specs.Model.{time_at}
 use Rattle.cert.specs.declared.Certificate.{Certificate}
 use Rattle.extensions.specs.Model.{on_truth}
@@ -20,9 +16,9 @@ in_time start last time next to =
     invalid_cert_validity
     (cond (ltb time start) cert_not_valid_yet (cond (ltb last time) cert_expired (cond (eqb next to) 0 bad_der)))
 
-unfoldable pub on_time : {R : Type 0} → Time → (ℕ → R) → (ℕ → ℕ → R) → R
-on_time (At n next) other k = k n next
-on_time (NoTime e) other k = other e
+unfoldable pub on_time : {R : Type 0} → Result (ℕ × ℕ) ℕ → (ℕ → R) → (ℕ → ℕ → R) → R
+on_time (Ok v) other k = k v.0 v.1
+on_time (Err e) other k = other e
 
 abbrev pub itself : ℕ → ℕ
 itself e = e
@@ -43,9 +39,9 @@ in_role issuer authority limit below =
 unfoldable pub first_of : ℕ → ℕ → ℕ
 first_of d e = cond (eqb d 0) e d
 
-unfoldable pub on_number : {R : Type 0} → Small → (ℕ → R) → (ℕ → ℕ → R) → R
-on_number (Number n next) other k = k n next
-on_number (NoNumber e) other k = other e
+unfoldable pub on_number : {R : Type 0} → Result (ℕ × ℕ) ℕ → (ℕ → R) → (ℕ → ℕ → R) → R
+on_number (Ok v) other k = k v.0 v.1
+on_number (Err e) other k = other e
 
 unfoldable pub bounded_role : List ℕ → ℕ → ℕ → Bool → Bool → ℕ → ℕ
 bounded_role s from to issuer authority below =

@@ -10,8 +10,7 @@ use native.Mathlib.Nat.{add-mul, mul_comm, mul-suc, mul-le-mul_right}
 use native.Mathlib.Omega.{arith}
 use borrow.Author.Tests.{ltb-true, ltb-false, eqb-true, eqb-false}
 use Rattle.refusal.specs.Refusals.{bad_der}
-use Rattle.der.specs.declared.Read.TheVariants.{Value}
-use Rattle.der.specs.Model.{high_tag, least, read_value, expect_at, on_content}
+use Rattle.der.specs.Model.{high_tag, least, read_value, expect_at, on_content, value_is}
 use Rattle.der.specs.Places.{part}
 use Rattle.der.specs.Loop.{run, walk}
 use Rattle.der.proofs.Laws.{lt_or_le, expect_value, value_expect}
@@ -19,18 +18,12 @@ use Rattle.der.proofs.Invert.{length_inv, value_inv}
 use Rattle.der.proofs.Parts.{part_length}
 use Rattle.looks.specs.Der.{nothing, long_looks, first_looks, length_looks, value_looks}
 use Rattle.looks.proofs.Der.{Headed, at_most, value_few, expect_cost, content_then, expect_then, test_then}
-use Rattle.names.specs.declared.general.Name.{Name}
-use Rattle.names.specs.declared.general.Name.TheVariants.{Found, Refused as NoName}
 use Rattle.names.specs.General.{dns_name, ip_address}
-use Rattle.names.specs.Model.{general_name}
+use Rattle.names.specs.Model.{general_name, name_is}
 use Rattle.names.proofs.Laws.{name_at}
-use Rattle.entries.specs.declared.Base.{Base}
-use Rattle.entries.specs.declared.Base.TheVariants.{Is, Refused as NoBase}
 use Rattle.entries.specs.declared.Seen.{Seen}
-use Rattle.entries.specs.declared.Step.{Step}
-use Rattle.entries.specs.declared.Step.TheVariants.{Next, Stop}
 use Rattle.entries.specs.Tally.{Tally, tally, after, spend}
-use Rattle.entries.specs.Model.{on_name, base_at, on_base, judged, unseen, ended, go_on, entries}
+use Rattle.entries.specs.Model.{on_name, base_at, on_base, judged, unseen, ended, go_on, entries, next_is}
 use Rattle.entries.proofs.Laws.{base_inv, base_within, judged_inv}
 use Rattle.entries.proofs.Spending.{enough, lacking}
 use Rattle.compared.specs.Dns.{permitted_looks, excluded_looks}
@@ -40,6 +33,8 @@ use Rattle.compared.proofs.Dns.{permitted_few, excluded_few}
 use Rattle.compared.proofs.Most.{Most, permitted_most, excluded_most}
 use Rattle.compared.proofs.Names.{match_subnet_few}
 use Rattle.compared.proofs.Follows.{base_follows}
+use Rattle.std.specs.Prelude.{Err, Ok, Result}
+use Rattle.names.specs.declared.general.Name.{Name}
 
 -- ---- a header
 first_most : (at to b : ℕ) → first_looks at to b ≤ 4
@@ -63,13 +58,13 @@ value_most s from to =
     omega arith))
 
 -- what is looked at after a general name
-pub name_then : (g : Name) (k : ℕ → ℕ → ℕ → ℕ) (P : ℕ → Type 0) → P 0 → ((kind start end : ℕ) → g ≡ Found kind start end → P (k kind start end)) → P (on_name g nothing k)
+pub name_then : (g : Result Name ℕ) (k : ℕ → ℕ → ℕ → ℕ) (P : ℕ → Type 0) → P 0 → ((kind start end : ℕ) → g ≡ name_is kind start end → P (k kind start end)) → P (on_name g nothing k)
 unfolding on_name
-name_then (Found kind start end) k P z h = h kind start end refl
-name_then (NoName e) k P z h = z
+name_then (Ok v) k P z h = h v.kind v.start v.end refl
+name_then (Err e) k P z h = z
 
 -- a general name that is found costs the header before it
-pub name_cost : (s : List ℕ) (from to kind start end : ℕ) → general_name s from to ≡ Found kind start end → Headed s from to start end
+pub name_cost : (s : List ℕ) (from to kind start end : ℕ) → general_name s from to ≡ name_is kind start end → Headed s from to start end
 name_cost s from to kind start end e = expect_cost s from to kind bad_der (record { start = start; end = end }) (value_expect s from to kind bad_der start end (name_at s from to kind start end e).value)
 
 -- ---- one entry
@@ -103,7 +98,7 @@ one_byte k c = go (eqb k 1) (eqb k 2) (eqb k 3) refl c
     go false false false e c = omega arith
 
 -- a content of less than 256 bytes has a header of no more than three
-pub short_header : (s : List ℕ) (from to tag start end : ℕ) → read_value s from to ≡ Value tag start end → end - start < 256 → start ≤ from + 3
+pub short_header : (s : List ℕ) (from to tag start end : ℕ) → read_value s from to ≡ value_is tag start end → end - start < 256 → start ≤ from + 3
 unfolding read_value
 short_header s from to tag start end e l =
     let v = value_inv s from to 65535 tag start end e in
@@ -149,7 +144,7 @@ module _ (s : List ℕ) (to : ℕ) (excluded : Bool) (kind : ℕ) (p : List ℕ)
       omega (arith, compared_few excluded kind p (part s start end), part_length s start end (omega (arith, i.inside, i.within)), h.cost, h.after, h.inside, i.cost, i.after, i.ordered, i.inside)))))
 
   -- the name and the entry, its header among its bytes: three looks for each byte of the two, and seven less
-  pub entry_cost : (at base start end : ℕ) → base_at s at to ≡ Is base start end → judged_looks s to excluded kind p at + 7 ≤ 3 * length p + 3 * (end - at)
+  pub entry_cost : (at base start end : ℕ) → base_at s at to ≡ name_is base start end → judged_looks s to excluded kind p at + 7 ≤ 3 * length p + 3 * (end - at)
   unfolding judged_looks base_looks on_content on_name
   entry_cost at base start end e =
       let i = base_inv s at to base start end e in
@@ -174,14 +169,14 @@ headers_most s at to =
     test_then (eqb end b) 0 (λ n. value_looks s at to + (value_looks s a b + n) ≤ 12) (omega arith) (λ f. omega arith)))
 
 -- an entry of at most `longest` bytes, or one that cannot be read
-either_cost : (s : List ℕ) (to : ℕ) (excluded : Bool) (kind : ℕ) (p : List ℕ) (at longest : ℕ) → 4 ≤ longest → ((base start end : ℕ) → base_at s at to ≡ Is base start end → end - at ≤ longest)
+either_cost : (s : List ℕ) (to : ℕ) (excluded : Bool) (kind : ℕ) (p : List ℕ) (at longest : ℕ) → 4 ≤ longest → ((base start end : ℕ) → base_at s at to ≡ name_is base start end → end - at ≤ longest)
     → judged_looks s to excluded kind p at ≤ 3 * (length p + longest)
 unfolding judged_looks on_base
 either_cost s to excluded kind p at longest l h = by (base_at s at to) refl
   where
-    by : (b : Base) → base_at s at to ≡ b → judged_looks s to excluded kind p at ≤ 3 * (length p + longest)
-    by (Is base start end) e = omega (arith, entry_cost s to excluded kind p at base start end e, h base start end e)
-    by (NoBase x) e =
+    by : (b : Result Name ℕ) → base_at s at to ≡ b → judged_looks s to excluded kind p at ≤ 3 * (length p + longest)
+    by (Ok v) e = omega (arith, entry_cost s to excluded kind p at v.kind v.start v.end e, h v.kind v.start v.end e)
+    by (Err x) e =
         let f : on_base (base_at s at to) nothing (λ base start end. cond (eqb base kind) (compared_looks excluded kind p (part s start end)) 0) ≡ 0 = rw e refl in
         omega (arith, base_follows s at to (λ base start end. cond (eqb base kind) (compared_looks excluded kind p (part s start end)) 0), headers_most s at to)
 
@@ -202,13 +197,13 @@ used_next left t n =
 module _ (s : List ℕ) (to : ℕ) (excluded : Bool) (kind : ℕ) (p : List ℕ) where
   -- what holds of no look, of one turn, and of a turn and what comes after it, holds of the looks and of the comparisons that are taken
   module _ (P : ℕ → ℕ → ℕ → Type 0) (none : (at u : ℕ) → P at 0 u) (one : (at : ℕ) → at < to → P at (judged_looks s to excluded kind p at) 1)
-      (more : (at : ℕ) (seen : Seen) (next : ℕ) (seen' : Seen) (n u : ℕ) → judged s to excluded kind p at seen ≡ Next next seen' → P next n u → P at (judged_looks s to excluded kind p at + n) (suc u)) where
-    turn_keeps : (at : ℕ) (seen : Seen) (left : ℕ) (k : ℕ → Going → ℕ) (t : ℕ → Seen → Tally) (r : Step) → at < to → judged s to excluded kind p at seen ≡ r → (left ≡ 0 → ⊥)
+      (more : (at : ℕ) (seen : Seen) (next : ℕ) (seen' : Seen) (n u : ℕ) → judged s to excluded kind p at seen ≡ next_is next seen' → P next n u → P at (judged_looks s to excluded kind p at + n) (suc u)) where
+    turn_keeps : (at : ℕ) (seen : Seen) (left : ℕ) (k : ℕ → Going → ℕ) (t : ℕ → Seen → Tally) (r : Result (ℕ × Seen) ℕ) → at < to → judged s to excluded kind p at seen ≡ r → (left ≡ 0 → ⊥)
         → ((next : ℕ) (x : Seen) → P next (k next (going x (left - 1))) (used (left - 1) (t next x)))
         → P at (judged_looks s to excluded kind p at + after_step r (λ next x. k next (going x (left - 1)))) (used left (go_on r t))
     unfolding after_step go_on
-    turn_keeps at seen left k t (Next next x) l e n h = rw (used_next left (t next x) n) (more at seen next x _ _ e (h next x))
-    turn_keeps at seen left k t (Stop f) l e n h =
+    turn_keeps at seen left k t (Ok v) l e n h = rw (used_next left (t v.0 v.1) n) (more at seen v.0 v.1 _ _ e (h v.0 v.1))
+    turn_keeps at seen left k t (Err f) l e n h =
         let z : judged_looks s to excluded kind p at + 0 ≡ judged_looks s to excluded kind p at = omega arith in
         rw (used_stop left f n, z) (one at l)
 
@@ -255,7 +250,7 @@ module _ (s : List ℕ) (to : ℕ) (excluded : Bool) (kind : ℕ) (p : List ℕ)
       omega (arith, h, entry_cost s to excluded kind p at j.base j.start next j.is, base_within s at to j.base j.start next j.is, mul-suc (length p) u)) from left
 
   -- and where no entry that is met has more than `longest` bytes: three for each comparison and each byte of the name and of that entry
-  pub all_each : (from left longest : ℕ) → 4 ≤ longest → ((at base start end : ℕ) → Met s from to at → base_at s at to ≡ Is base start end → end - at ≤ longest)
+  pub all_each : (from left longest : ℕ) → 4 ≤ longest → ((at base start end : ℕ) → Met s from to at → base_at s at to ≡ name_is base start end → end - at ≤ longest)
       → all_looks s from to excluded kind p left ≤ 3 * ((length p + longest) * used left (entries s from to excluded kind p))
   all_each from left longest l each =
       all_keeps (λ at n u. Met s from to at → n ≤ 3 * ((length p + longest) * u)) (λ at u m. omega arith)

@@ -12,7 +12,7 @@ use Rattle.parts.specs.Model.{same_parts}
 use Rattle.looks.specs.Der.{long_looks, first_looks, length_looks, value_looks, pair_looks, same_looks}
 use Rattle.labels.specs.Names.{digit, letter, capital}
 use Rattle.dns.specs.Names.{small}
-use Rattle.dns.specs.Model.{stands_for, match_wanted, same_text, in_subtree, meets_subtree, yes_if, match_excluded}
+use Rattle.dns.specs.Model.{stands_for, match_wanted, same_text, in_subtree, meets_subtree, match_excluded}
 use Rattle.texts.specs.Model.{begins, relative_text, from_dot}
 use Rattle.labels.specs.Model.{whole, take_byte, on_taken, host_from, host_text, valid_starred, valid_presented, valid_wanted, valid_entry}
 use Rattle.names.specs.General.{among, choices}
@@ -77,12 +77,12 @@ abbrev pub list_b : List ℕ
 list_b = 48 ∷ 3 ∷ 130 ∷ 1 ∷ 98 ∷ entry_b
 
 pub list_looks : (all_looks list_b 0 10 true 130 name_a 0 ≡ 0) × (all_looks list_b 0 10 true 130 name_a 1 ≡ 11) × (all_looks list_b 0 10 true 130 name_a 2 ≡ 22)
-unfolding all_looks turn_looks after_step walk run judged base_at on_base settled compared match_excluded meets_subtree yes_if judged_looks base_looks compared_looks value_looks high_tag length_looks first_looks on_content expect_at of_tag read_value read_limited with_length read_length by_first on_name general_name of_kind is_kind among choices part excluded_looks presented_looks entry_looks meets_looks in_looks same_text_looks text_looks begins_looks host_looks label_looks all_taken through valid_presented valid_entry in_subtree same_text begins host_text host_from on_taken take_byte whole digit letter capital small
+unfolding all_looks turn_looks after_step walk run judged base_at on_base settled compared match_excluded meets_subtree judged_looks base_looks compared_looks value_looks high_tag length_looks first_looks on_content expect_at of_tag read_value read_limited with_length read_length by_first on_name general_name of_kind is_kind among choices part excluded_looks presented_looks entry_looks meets_looks in_looks same_text_looks text_looks begins_looks host_looks label_looks all_taken through valid_presented valid_entry in_subtree same_text begins host_text host_from on_taken take_byte whole digit letter capital small
 list_looks = (refl, refl, refl)
 
 -- the comparisons that these take of the budget
 pub list_used : (used 0 (entries list_b 0 10 true 130 name_a) ≡ 0) × (used 1 (entries list_b 0 10 true 130 name_a) ≡ 1) × (used 2 (entries list_b 0 10 true 130 name_a) ≡ 2)
-unfolding used spend entries ended go_on after closed walk run judged base_at on_base settled compared match_excluded meets_subtree yes_if high_tag on_content expect_at of_tag read_value read_limited with_length read_length by_first on_name general_name of_kind is_kind among choices part valid_presented valid_entry in_subtree same_text begins host_text host_from on_taken take_byte whole digit letter capital small
+unfolding used spend entries ended go_on after closed walk run judged base_at on_base settled compared match_excluded meets_subtree high_tag on_content expect_at of_tag read_value read_limited with_length read_length by_first on_name general_name of_kind is_kind among choices part valid_presented valid_entry in_subtree same_text begins host_text host_from on_taken take_byte whole digit letter capital small
 list_used = (refl, refl, refl)
 
 -- ---- the longest: 253 bytes with a star, and an excluded entry of 252 after a dot that differs in the last byte
@@ -101,7 +101,7 @@ longest_looks = refl
 
 -- two of it: as many looks for each of two comparisons
 pub longest_list : all_looks (long_entry ++ long_entry) 0 516 true 130 long_name 2 ≡ 2290
-unfolding all_looks turn_looks after_step walk run judged base_at on_base settled compared match_excluded meets_subtree yes_if judged_looks base_looks compared_looks value_looks high_tag length_looks first_looks long_looks number_at least long_form on_content expect_at of_tag read_value read_limited with_length read_length by_first on_name general_name of_kind is_kind among choices part excluded_looks presented_looks starred_looks from_dot_looks entry_looks meets_looks in_looks same_text_looks text_looks begins_looks host_looks label_looks all_taken through valid_presented valid_starred from_dot valid_entry in_subtree same_text begins host_text host_from on_taken take_byte whole digit letter capital small
+unfolding all_looks turn_looks after_step walk run judged base_at on_base settled compared match_excluded meets_subtree judged_looks base_looks compared_looks value_looks high_tag length_looks first_looks long_looks number_at least long_form on_content expect_at of_tag read_value read_limited with_length read_length by_first on_name general_name of_kind is_kind among choices part excluded_looks presented_looks starred_looks from_dot_looks entry_looks meets_looks in_looks same_text_looks text_looks begins_looks host_looks label_looks all_taken through valid_presented valid_starred from_dot valid_entry in_subtree same_text begins host_text host_from on_taken take_byte whole digit letter capital small
 longest_list = refl
 
 -- ---- the wanted name b, and the names a and a: 22, where the bound says 66 for three times as many
@@ -109,7 +109,7 @@ abbrev pub two_names : List ℕ
 two_names = 130 ∷ 1 ∷ 97 ∷ 130 ∷ 1 ∷ 97 ∷ []
 
 pub good_dns_looks_lem : good_dns_looks two_names 0 6 name_b ≡ 22
-unfolding good_dns_looks good_looks walk run try_looks fit_looks is_wanted fits is_yes match_wanted match_wanted_looks value_looks high_tag length_looks first_looks read_value read_limited with_length read_length by_first on_name general_name of_kind is_kind among choices part presented_looks wanted_looks relative_looks relative_text stands_looks same_text_looks text_looks begins_looks host_looks label_looks all_taken through valid_presented valid_wanted stands_for same_text begins host_text host_from on_taken take_byte whole digit letter capital small yes_if
+unfolding good_dns_looks good_looks walk run try_looks fit_looks is_wanted fits is_yes match_wanted match_wanted_looks value_looks high_tag length_looks first_looks read_value read_limited with_length read_length by_first on_name general_name of_kind is_kind among choices part presented_looks wanted_looks relative_looks relative_text stands_looks same_text_looks text_looks begins_looks host_looks label_looks all_taken through valid_presented valid_wanted stands_for same_text begins host_text host_from on_taken take_byte whole digit letter capital small
 good_dns_looks_lem = refl
 
 -- an address that is wanted, in six bytes

@@ -7,8 +7,6 @@ use lib.ListN.{length}
 use lib.Dec.{leb, eqb}
 use native.Mathlib.Omega.{arith}
 use borrow.Author.Tests.{eq-eqb, ne_eqb}
-use Rattle.der.specs.declared.Got.{Got}
-use Rattle.der.specs.declared.Got.TheVariants.{Content, Refused as NoContent}
 use Rattle.der.specs.Model.{on_content}
 use Rattle.der.specs.Places.{part}
 use Rattle.looks.specs.Der.{nothing, value_looks}
@@ -18,31 +16,30 @@ use Rattle.dns.specs.Names.{small}
 use Rattle.dns.specs.Model.{same_text}
 use Rattle.texts.specs.Model.{from_dot}
 use Rattle.labels.specs.Model.{whole, fresh, take_byte, on_taken, host_from, host_text}
-use Rattle.names.specs.declared.general.Name.{Name}
-use Rattle.names.specs.declared.general.Name.TheVariants.{Found, Refused as NoName}
 use Rattle.names.specs.Model.{general_name, is_wanted}
-use Rattle.entries.specs.declared.Base.{Base}
-use Rattle.entries.specs.declared.Base.TheVariants.{Refused as NoBase}
 use Rattle.entries.specs.Model.{on_name, base_at, on_base}
 use Rattle.compared.specs.Dns.{text_looks, same_text_looks, from_dot_looks, through, all_taken, label_looks, host_looks}
 use Rattle.compared.specs.Names.{fit_looks, try_looks}
 use Rattle.compared.specs.Entries.{base_looks}
 use Rattle.compared.proofs.Dns.{not-true}
+use Rattle.std.specs.Prelude.{Ok, Err, Result}
+use Rattle.der.specs.declared.Span.{Span}
+use Rattle.names.specs.declared.general.Name.{Name}
 
 -- h counts what is looked at after an answer
-content_follows : (h : Base → ℕ) (v : ℕ) (g : Got) (f : ℕ → ℕ → Base) (k l : ℕ → ℕ → ℕ) → ((e : ℕ) → h (NoBase e) ≡ 0) → ((a b : ℕ) → k a b ≡ l a b + h (f a b))
-    → v + on_content g nothing k ≡ (v + on_content g nothing l) + h (on_content g NoBase f)
+content_follows : (h : Result Name ℕ → ℕ) (v : ℕ) (g : Result Span ℕ) (f : ℕ → ℕ → Result Name ℕ) (k l : ℕ → ℕ → ℕ) → ((e : ℕ) → h (Err e) ≡ 0) → ((a b : ℕ) → k a b ≡ l a b + h (f a b))
+    → v + on_content g nothing k ≡ (v + on_content g nothing l) + h (on_content g Err f)
 unfolding on_content
-content_follows h v (Content p) f k l z e = omega (arith, e p.start p.end)
-content_follows h v (NoContent n) f k l z e = omega (arith, z n)
+content_follows h v (Ok p) f k l z e = omega (arith, e p.start p.end)
+content_follows h v (Err n) f k l z e = omega (arith, z n)
 
-name_follows : (h : Base → ℕ) (v : ℕ) (g : Name) (f : ℕ → ℕ → ℕ → Base) (k l : ℕ → ℕ → ℕ → ℕ) → ((e : ℕ) → h (NoBase e) ≡ 0) → ((kind a b : ℕ) → k kind a b ≡ l kind a b + h (f kind a b))
-    → v + on_name g nothing k ≡ (v + on_name g nothing l) + h (on_name g NoBase f)
+name_follows : (h : Result Name ℕ → ℕ) (v : ℕ) (g : Result Name ℕ) (f : ℕ → ℕ → ℕ → Result Name ℕ) (k l : ℕ → ℕ → ℕ → ℕ) → ((e : ℕ) → h (Err e) ≡ 0) → ((kind a b : ℕ) → k kind a b ≡ l kind a b + h (f kind a b))
+    → v + on_name g nothing k ≡ (v + on_name g nothing l) + h (on_name g Err f)
 unfolding on_name
-name_follows h v (Found kind a b) f k l z e = omega (arith, e kind a b)
-name_follows h v (NoName n) f k l z e = omega (arith, z n)
+name_follows h v (Ok v') f k l z e = omega (arith, e v'.kind v'.start v'.end)
+name_follows h v (Err n) f k l z e = omega (arith, z n)
 
-test_follows : (h : Base → ℕ) (b : Bool) (x y : Base) (k : ℕ) → h y ≡ 0 → k ≡ h x → cond b k 0 ≡ cond b 0 0 + h (cond b x y)
+test_follows : (h : Result Name ℕ → ℕ) (b : Bool) (x y : Result Name ℕ) (k : ℕ) → h y ≡ 0 → k ≡ h x → cond b k 0 ≡ cond b 0 0 + h (cond b x y)
 test_follows h true x y k z e = omega (arith, e)
 test_follows h false x y k z e = omega (arith, z)
 
@@ -64,10 +61,10 @@ try_follows s at to sought wanted k = by (general_name s at to)
     test true v f n = omega arith
     test false v f n = omega arith
 
-    by : (g : Name)
+    by : (g : Result Name ℕ)
         → value_looks s at to + on_name g nothing (λ kind start end. fit_looks kind (part s start end) sought wanted + cond (is_wanted s kind start end sought wanted) 0 (k end)) ≡ (value_looks s at to + on_name g nothing (λ kind start end. fit_looks kind (part s start end) sought wanted + cond (is_wanted s kind start end sought wanted) 0 0)) + on_name g nothing (λ kind start end. cond (is_wanted s kind start end sought wanted) 0 (k end))
-    by (Found kind start end) = test (is_wanted s kind start end sought wanted) _ _ _
-    by (NoName e) = omega arith
+    by (Ok v) = test (is_wanted s v.kind v.start v.end sought wanted) _ _ _
+    by (Err e) = omega arith
 
 -- ---- texts
 text_whole : (x y : List ℕ) → same_text x y ≡ true → (length x ≡ length y) × (text_looks x y ≡ 2 * length x)

@@ -1,4 +1,4 @@
--- How many elements of a slice are read for DNS names: the tests of `Model.antt` in `crates/texts/specs`, `crates/labels/specs` and `crates/dns/specs` in the same order, and 1 for each `s[i]` that the code beside it comes to.
+-- How many elements of a slice are read for DNS names: the tests of `Model.antt` in `crates/texts/specs`, `crates/labels/specs` and `crates/dns/specs` in the same order, and 1 for each element that the code beside it reads.
 use Rattle.std.specs.Prelude.{ℕ, ◌+◌, ◌-◌, List, [], ◌∷◌, ◌++◌, Bool, true, cond, length, get_or, drop, ltb, leb, eqb}
 use Rattle.texts.specs.Bytes.{dot}
 use Rattle.labels.specs.Names.{star, longest_name}
@@ -12,7 +12,7 @@ unfoldable pub begins_looks : List ℕ → ℕ
 begins_looks [] = 0
 begins_looks (x ∷ xs) = 1
 
--- the loop of `same_text`: 2 for each pair, up to the first that differs
+-- the loop of `same_text`, in the library: 2 for each pair, up to the first that differs
 unfoldable pub text_looks : List ℕ → List ℕ → ℕ
 text_looks [] ys = 0
 text_looks (x ∷ xs) [] = 0

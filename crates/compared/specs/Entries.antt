@@ -1,17 +1,14 @@
--- How many elements of a slice are read for the entries of a list: the tests of `crates/entries/specs/Model.antt` in the same order, and 1 for each `s[i]` that the code beside it comes to.
+-- How many elements of a slice are read for the entries of a list: the tests of `crates/entries/specs/Model.antt` in the same order, and 1 for each element that the code beside it reads.
 -- k is what is looked at afterwards.
-use Rattle.std.specs.Prelude.{ℕ, ◌+◌, ◌-◌, ◌≤◌, ◌≡◌, List, [], ◌∷◌, Bool, cond, length, eqb}
+use Rattle.std.specs.Prelude.{ℕ, ◌+◌, ◌-◌, ◌≤◌, ◌≡◌, List, [], ◌∷◌, Bool, cond, length, eqb, Err, Ok, Result}
 use Rattle.refusal.specs.Refusals.{bad_der}
 use Rattle.der.specs.Model.{expect_at, on_content}
 use Rattle.der.specs.Places.{part}
 use Rattle.der.specs.Loop.{walk}
 use Rattle.looks.specs.Der.{nothing, value_looks}
 use Rattle.names.specs.General.{dns_name, ip_address}
-use Rattle.names.specs.Model.{general_name}
-use Rattle.entries.specs.declared.Base.TheVariants.{Is}
+use Rattle.names.specs.Model.{general_name, name_is}
 use Rattle.entries.specs.declared.Seen.{Seen}
-use Rattle.entries.specs.declared.Step.{Step}
-use Rattle.entries.specs.declared.Step.TheVariants.{Next, Stop}
 use Rattle.entries.specs.Tally.{Tally, spend}
 use Rattle.entries.specs.Model.{on_name, base_at, judged, unseen, entries}
 use Rattle.compared.specs.Dns.{permitted_looks, excluded_looks}
@@ -36,9 +33,9 @@ judged_looks s to excluded kind p at =
     base_looks s at to (λ base start end. cond (eqb base kind) (compared_looks excluded kind p (part s start end)) 0)
 
 -- what is looked at after an entry
-unfoldable pub after_step : Step → (ℕ → Seen → ℕ) → ℕ
-after_step (Next at seen) k = k at seen
-after_step (Stop e) k = 0
+unfoldable pub after_step : Result (ℕ × Seen) ℕ → (ℕ → Seen → ℕ) → ℕ
+after_step (Ok v) k = k v.0 v.1
+after_step (Err e) k = 0
 
 -- where `all` is: what was seen, and how many comparisons are left
 pub record Going : Type 0 where
@@ -66,7 +63,7 @@ used left t = left - (spend left t).left
 -- the places of a list at which an entry is looked for, where all before it were read
 pub data Met (s : List ℕ) (from to : ℕ) : ℕ → Type 0 where
   first : Met s from to from
-  later : (at base start end : ℕ) → Met s from to at → base_at s at to ≡ Is base start end → Met s from to end
+  later : (at base start end : ℕ) → Met s from to at → base_at s at to ≡ name_is base start end → Met s from to end
 
 -- a list against a name, as `all` is given them
 pub record Against : Type 0 where
@@ -89,5 +86,5 @@ unfoldable pub NoLonger : ℕ → ℕ → List Against → Type 0
 NoLonger m n [] = Unit {0}
 NoLonger m n (x ∷ xs) =
     (length x.name ≤ m)
-    × ((at base start end : ℕ) → Met x.bytes x.from x.to at → base_at x.bytes at x.to ≡ Is base start end → end - at ≤ n)
+    × ((at base start end : ℕ) → Met x.bytes x.from x.to at → base_at x.bytes at x.to ≡ name_is base start end → end - at ≤ n)
     × NoLonger m n xs

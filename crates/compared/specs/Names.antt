@@ -1,4 +1,4 @@
--- How many elements of a slice are read for addresses and general names: the tests of `Model.antt` in `crates/ip/specs` and `crates/names/specs` in the same order, and 1 for each `s[i]` that the code beside it comes to.
+-- How many elements of a slice are read for addresses and general names: the tests of `Model.antt` in `crates/ip/specs` and `crates/names/specs` in the same order, and 1 for each element that the code beside it reads.
 -- k is what is looked at afterwards.
 use Rattle.std.specs.Prelude.{ℕ, ◌+◌, ◌*◌, List, [], ◌∷◌, Bool, true, cond, length, take, drop, eqb}
 use Rattle.der.specs.Places.{part}

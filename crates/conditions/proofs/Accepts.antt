@@ -14,7 +14,7 @@ use Rattle.extensions.proofs.Complete.{number_is}
 use Rattle.names.specs.General.{General, Each}
 use Rattle.subtrees.specs.Rfc5280Names.{Others, Some, OfKind, NameConstraints, Touches, Formed, Conforms}
 use Rattle.subtrees.proofs.Generals.{each_to, each_two}
-use Rattle.checks.specs.Conditions.{Optional, absent, present, Contents, InValidity, Bound, unbounded, at_most, Allows, Constrained, Authority as Says, unwritten, written, PathLength, none, some, issuer}
+use Rattle.checks.specs.Conditions.{Optional, absent, present, Contents, InValidity, Bound, unbounded, at_most, Allows, Constrained, Authority as Says, unwritten, written, PathLength, none, some}
 use Rattle.checks.specs.Skeletons.{IsCertificate}
 use Rattle.names.proofs.Once.{names_once}
 use Rattle.asked.specs.Questions.{KeyOf, of_anchor, from_certificate}

@@ -4,9 +4,7 @@ use mathlib.Core.Path.{◌≡◌, refl, sym, ◌∙◌, ap}
 use mathlib.Core.Bool.{true}
 use mathlib.Core.List.{List, [], ◌∷◌, ◌++◌}
 use Rattle.cert.specs.declared.Certificate.{Certificate}
-use Rattle.cert.specs.declared.Reading.{Reading}
-use Rattle.cert.specs.declared.Reading.TheVariants.{Accepted, Refused as NotRead}
-use Rattle.cert.specs.Model.{read_certificate}
+use Rattle.cert.specs.Model.{read_certificate, Reading}
 use Rattle.path.specs.Model.{on_reading}
 use Rattle.dialogue.specs.Model.{Path, Outcome, accepted, refused, spent, Tree, done, ask, offer}
 use Rattle.dialogue.specs.Log.{What, Turn}
@@ -14,6 +12,7 @@ use Rattle.dialogue.specs.Dialogue.{Leads, give, turn, follow, talk}
 use Rattle.dialogue.proofs.Questions.{Questions, along_questions}
 use Rattle.conditions.specs.Request.{Request, Budgets}
 use Rattle.conditions.specs.Model.{name_of, named, closed, search_of, decision}
+use Rattle.std.specs.Prelude.{Ok, Err}
 
 -- a dialogue with the closed tree is one with the tree
 unclosed : (e : ℕ) (t : Tree) (turns : List Turn) (r : Outcome) → Leads (closed e t) turns r → (q : Outcome) × Leads t turns q × (r ≡ named e q)
@@ -24,7 +23,7 @@ unclosed e (offer anchor path t) turns r h = let x = unclosed e (t h.0) h.1 r h.
 
 module _ (R : Request) (B : Budgets) (turns : List Turn) (r : Outcome) where
   pub data Came : Type 0 where
-    unread : (x : ℕ) → read_certificate R.end true ≡ NotRead x → turns ≡ [] → r ≡ refused x → Came
+    unread : (x : ℕ) → read_certificate R.end true ≡ Err x → turns ≡ [] → r ≡ refused x → Came
     found : (anchor : ℕ) (path : Path) → Leads (search_of R B) turns (accepted anchor path) → name_of R.end R.kind R.name ≡ 0 → r ≡ accepted anchor path → Came
     misnamed : (anchor : ℕ) (path : Path) (e : ℕ) → Leads (search_of R B) turns (accepted anchor path) → name_of R.end R.kind R.name ≡ suc e → r ≡ refused (suc e) → Came
     none : (x : ℕ) → Leads (search_of R B) turns (refused x) → r ≡ refused x → Came
@@ -43,10 +42,10 @@ module _ (R : Request) (B : Budgets) (turns : List Turn) (r : Outcome) where
     where
       by : (g : Reading) → read_certificate R.end true ≡ g
           → Leads (on_reading g (λ e. done (refused e)) (λ c. closed (name_of R.end R.kind R.name) (search_of R B))) turns r → Came
-      by (Accepted c) e h =
+      by (Ok c) e h =
           let x = unclosed (name_of R.end R.kind R.name) (search_of R B) turns r h in
           searched (name_of R.end R.kind R.name) refl x.0 x.1 x.2
-      by (NotRead x) e h = unread x e h.0 (sym h.1)
+      by (Err x) e h = unread x e h.0 (sym h.1)
 
 -- ---- the wanted name changes no question
 give_closed : (e : ℕ) (t : Tree) (a : ℕ) → give (closed e t) a ≡ closed e (give t a)
@@ -71,11 +70,11 @@ unfolding talk
 talk_closed e t [] = refl
 talk_closed e t (a ∷ said) = ap (λ (l : List Turn). l ++ talk (give (closed e t) a) said) (turn_closed e t a) ∙ ap (λ (u : Tree). turn t a ++ talk u said) (give_closed e t a) ∙ ap (λ (l : List Turn). turn t a ++ l) (talk_closed e (give t a) said)
 
-pub decision_is : (R : Request) (B : Budgets) (c : Certificate) → read_certificate R.end true ≡ Accepted c → decision R B ≡ closed (name_of R.end R.kind R.name) (search_of R B)
+pub decision_is : (R : Request) (B : Budgets) (c : Certificate) → read_certificate R.end true ≡ Ok c → decision R B ≡ closed (name_of R.end R.kind R.name) (search_of R B)
 unfolding decision on_reading
 decision_is R B c e = rw e
 
-pub decision_none : (R : Request) (B : Budgets) (x : ℕ) → read_certificate R.end true ≡ NotRead x → decision R B ≡ done (refused x)
+pub decision_none : (R : Request) (B : Budgets) (x : ℕ) → read_certificate R.end true ≡ Err x → decision R B ≡ done (refused x)
 unfolding decision on_reading
 decision_none R B x e = rw e
 
@@ -93,5 +92,5 @@ module _ (Q : ℕ → What → Type 0) where
   request_questions R B q said = along_questions Q (decision R B) said (by (read_certificate R.end true))
     where
       by : (g : Reading) → Questions Q (on_reading g (λ e. done (refused e)) (λ c. closed (name_of R.end R.kind R.name) (search_of R B)))
-      by (Accepted c) = closed_questions (name_of R.end R.kind R.name) (search_of R B) q
-      by (NotRead x) = tt
+      by (Ok c) = closed_questions (name_of R.end R.kind R.name) (search_of R B) q
+      by (Err x) = tt

@@ -11,7 +11,6 @@ use lib.ListN.{length, get_or}
 use borrow.Author.Tests.{ltb-true}
 use Rattle.refusal.specs.Refusals.{bad_der}
 use Rattle.der.specs.declared.Span.{Span}
-use Rattle.der.specs.declared.Got.TheVariants.{Content, Refused as NoContent}
 use Rattle.der.specs.Model.{expect_at}
 use Rattle.der.specs.Places.{part}
 use Rattle.der.specs.Loop.{run, walk}
@@ -20,27 +19,21 @@ use Rattle.der.proofs.Theorems.{value_places}
 use Rattle.der.proofs.Invert.{peel, either}
 use Rattle.extensions.proofs.Inversion.{on_content_lem}
 use Rattle.cert.specs.declared.Certificate.{Certificate}
-use Rattle.cert.specs.declared.Reading.{Reading}
-use Rattle.cert.specs.declared.Reading.TheVariants.{Accepted, Refused as NotRead}
-use Rattle.cert.specs.Model.{read_certificate}
-use Rattle.names.specs.declared.general.Name.{Name}
-use Rattle.names.specs.declared.general.Name.TheVariants.{Found, Refused as NoName}
-use Rattle.names.specs.Model.{general_name}
+use Rattle.cert.specs.Model.{read_certificate, Reading}
+use Rattle.names.specs.Model.{general_name, name_is}
 use Rattle.names.proofs.Laws.{name_at}
 use Rattle.entries.specs.declared.Seen.{Seen}
-use Rattle.entries.specs.declared.Step.{Step}
-use Rattle.entries.specs.declared.Step.TheVariants.{Next, Stop}
 use Rattle.entries.specs.Kinds.{directory_name}
 use Rattle.entries.specs.Tally.{Tally, tally, clean, after}
-use Rattle.entries.specs.Model.{on_name, judged, unseen, ended, go_on, entries}
+use Rattle.entries.specs.Model.{on_name, judged, unseen, ended, go_on, entries, next_is}
 use Rattle.entries.proofs.Laws.{base_inv, judged_inv}
 use Rattle.subtrees.specs.declared.Subtrees.{Subtrees}
-use Rattle.subtrees.specs.declared.Lists.{Lists}
-use Rattle.subtrees.specs.declared.Lists.TheVariants.{Are, Refused as NoLists}
 use Rattle.subtrees.specs.Noted.{lent}
 use Rattle.subtrees.specs.Model.{list_at, subtrees_at, name, next_name, alternatives, on_read, unread, certificate_as}
 use Rattle.constraints.specs.Model.{below_in, on_lists, left_over, constraints_in, own_in, anchored_in, issuers_in, path_constraints_in}
 use Rattle.dialogue.specs.Work.{pairs}
+use Rattle.std.specs.Prelude.{Ok, Err, Result}
+use Rattle.names.specs.declared.general.Name.{Name}
 
 after_few : (a b : Tally) → (after a b).taken ≤ a.taken + b.taken
 unfolding after
@@ -56,14 +49,14 @@ unfolding pairs
 half zero = omega arith
 half (suc d) = omega (arith, half d, mul-suc d (suc d))
 
-name_long : (s : List ℕ) (from to kind start end : ℕ) → general_name s from to ≡ Found kind start end → (from + 2 ≤ end) × (end ≤ to)
+name_long : (s : List ℕ) (from to kind start end : ℕ) → general_name s from to ≡ name_is kind start end → (from + 2 ≤ end) × (end ≤ to)
 name_long s from to kind start end e =
     let p = value_places s from to kind start end (name_at s from to kind start end e).value in
     (omega (arith, p.after, p.ordered), p.inside)
 
 -- ---- one list against one name: an entry that is passed has four bytes or more
 entry_long : (s : List ℕ) (to : ℕ) (excluded : Bool) (kind : ℕ) (p : List ℕ) (at : ℕ) (seen : Seen) (next : ℕ) (seen' : Seen)
-    → judged s to excluded kind p at seen ≡ Next next seen' → (at + 4 ≤ next) × (next ≤ to)
+    → judged s to excluded kind p at seen ≡ next_is next seen' → (at + 4 ≤ next) × (next ≤ to)
 entry_long s to excluded kind p at seen next seen' e =
     let j = judged_inv s to excluded kind p at seen next seen' e in
     let b = base_inv s at to j.base j.start next j.is in
@@ -80,12 +73,12 @@ module _ (s : List ℕ) (to : ℕ) (excluded : Bool) (kind : ℕ) (p : List ℕ)
   entries_run zero at seen = omega arith
   entries_run (suc fuel) at seen = by (ltb at to) refl (judged s to excluded kind p at seen) refl (entries_run fuel)
     where
-      by : (t : Bool) → ltb at to ≡ t → (j : Step) → judged s to excluded kind p at seen ≡ j → ((a : ℕ) (x : Seen) → 4 * (entries_from fuel a x).taken ≤ (to - a) + 3)
+      by : (t : Bool) → ltb at to ≡ t → (j : Result (ℕ × Seen) ℕ) → judged s to excluded kind p at seen ≡ j → ((a : ℕ) (x : Seen) → 4 * (entries_from fuel a x).taken ≤ (to - a) + 3)
           → 4 * (cond t (go_on j (entries_from fuel)) (ended at seen)).taken ≤ (to - at) + 3
-      by true l (Next a x) e rec =
-          let g = entry_long s to excluded kind p at seen a x e in
-          omega (arith, after_few (tally 1 0) (entries_from fuel a x), rec a x, g.0, g.1)
-      by true l (Stop x) e rec = omega (arith, ltb-true at to l)
+      by true l (Ok v) e rec =
+          let g = entry_long s to excluded kind p at seen v.0 v.1 e in
+          omega (arith, after_few (tally 1 0) (entries_from fuel v.0 v.1), rec v.0 v.1, g.0, g.1)
+      by true l (Err x) e rec = omega (arith, ltb-true at to l)
       by false l j e rec = omega arith
 
   entries_few : (from : ℕ) → 4 * (entries s from to excluded kind p).taken ≤ (to - from) + 3
@@ -93,34 +86,34 @@ module _ (s : List ℕ) (to : ℕ) (excluded : Bool) (kind : ℕ) (p : List ℕ)
   entries_few from = entries_run (to - from) from unseen
 
 -- ---- both lists: they lie one after the other, each that is there behind a header of two bytes or more
-no_content : {e : ℕ} {p : Span} → NoContent e ≡ Content p → ⊥
+no_content : {e : ℕ} {p : Span} → Err e ≡ Ok p → ⊥
 no_content h = let z : ◌≡◌ {A = ℕ} 0 1 = cc in omega arith
 
-list_few : (s : List ℕ) (from to tag : ℕ) (p : Span) (t : ℕ) → list_at s from to tag ≡ Content p → 4 * t ≤ (p.end - p.start) + 3 → 4 * t + (to - p.end) ≤ (to - from) + 1
+list_few : (s : List ℕ) (from to tag : ℕ) (p : Span) (t : ℕ) → list_at s from to tag ≡ Ok p → 4 * t ≤ (p.end - p.start) + 3 → 4 * t + (to - p.end) ≤ (to - from) + 1
 unfolding list_at
 list_few s from to tag p t e few =
     let x = peel (ltb (length s) to) e no_content in
     ⊎_elim (λ h. not_there h.1) (λ h. ⊎_elim (λ i. there i.1) (λ i. not_there i.1) (either (eqb (get_or s from 0) tag) h.1)) (either (leb to from) x.1)
   where
-    not_there : Content (record { start = from; end = from }) ≡ Content p → 4 * t + (to - p.end) ≤ (to - from) + 1
+    not_there : ◌≡◌ {A = Result Span ℕ} (Ok (record { start = from; end = from })) (Ok p) → 4 * t + (to - p.end) ≤ (to - from) + 1
     not_there q =
         let a : from ≡ p.start = cc in
         let b : from ≡ p.end = cc in
         omega (arith, few, a, b)
 
-    there : expect_at s from to tag bad_der ≡ Content p → 4 * t + (to - p.end) ≤ (to - from) + 1
+    there : expect_at s from to tag bad_der ≡ Ok p → 4 * t + (to - p.end) ≤ (to - from) + 1
     there q =
         let v = value_places s from to tag p.start p.end (expect_value s from to tag bad_der p q) in
         omega (arith, few, v.after, v.ordered, v.inside)
 
-no_lists : {l : Subtrees} (e : ℕ) → NoLists e ≡ Are l → ⊥
+no_lists : {l : Subtrees} (e : ℕ) → Err e ≡ Ok l → ⊥
 no_lists e h = let z : ◌≡◌ {A = ℕ} 0 1 = cc in omega arith
 
-name_few : (s : List ℕ) (from to : ℕ) (lists : Subtrees) → subtrees_at s from to ≡ Are lists → (kind : ℕ) (p : List ℕ) → 4 * (name s lists kind p).taken ≤ (to - from) + 2
+name_few : (s : List ℕ) (from to : ℕ) (lists : Subtrees) → subtrees_at s from to ≡ Ok lists → (kind : ℕ) (p : List ℕ) → 4 * (name s lists kind p).taken ≤ (to - from) + 2
 unfolding subtrees_at name
 name_few s from to lists e kind p =
-    let x = on_content_lem (list_at s from to 160) NoLists _ e no_lists in
-    let y = on_content_lem (list_at s x.0.end to 161) NoLists _ x.2 no_lists in
+    let x = on_content_lem (list_at s from to 160) Err _ e no_lists in
+    let y = on_content_lem (list_at s x.0.end to 161) Err _ x.2 no_lists in
     let z : ◌≡◌ {A = Subtrees} (record { permitted = x.0; excluded = y.0 }) lists = cc y.2 in
     let a = entries s x.0.start x.0.end false kind p in
     let b = entries s y.0.start y.0.end true kind p in
@@ -134,8 +127,8 @@ name_few s from to lists e kind p =
 
 -- ---- the certificates below, by number: at most m bytes of names, and l of constraints
 module _ (cert : ℕ → List ℕ) (m l : ℕ)
-    (names : (n : ℕ) (c : Certificate) → read_certificate (cert n) true ≡ Accepted c → c.known.alternative_name.end - c.known.alternative_name.start ≤ m)
-    (own : (n : ℕ) (c : Certificate) → read_certificate (cert n) true ≡ Accepted c → c.known.name_constraints.known ≡ true
+    (names : (n : ℕ) (c : Certificate) → read_certificate (cert n) true ≡ Ok c → c.known.alternative_name.end - c.known.alternative_name.start ≤ m)
+    (own : (n : ℕ) (c : Certificate) → read_certificate (cert n) true ≡ Ok c → c.known.name_constraints.known ≡ true
     → c.known.name_constraints.end - c.known.name_constraints.start ≤ l) where
   -- both lists against a certificate: the names and the subject, against the entries
   abbrev each : ℕ
@@ -150,18 +143,18 @@ module _ (cert : ℕ → List ℕ) (m l : ℕ)
     names_run t to zero at u = omega arith
     names_run t to (suc fuel) at u = by (ltb at to) (general_name t at to) refl (names_run t to fuel)
       where
-        by : (b : Bool) (n : Name) → general_name t at to ≡ n → ((a : ℕ) (v : Unit {0}) → (names_from t to fuel a v).taken ≤ (to - a) / 2 * ((l + 2) / 4))
+        by : (b : Bool) (n : Result Name ℕ) → general_name t at to ≡ n → ((a : ℕ) (v : Unit {0}) → (names_from t to fuel a v).taken ≤ (to - a) / 2 * ((l + 2) / 4))
             → (cond b (next_name s lists t n (names_from t to fuel)) clean).taken ≤ (to - at) / 2 * ((l + 2) / 4)
-        by true (Found kind start end) e rec =
-            let g = name_long t at to kind start end e in
+        by true (Ok v) e rec =
+            let g = name_long t at to v.kind v.start v.end e in
             omega (
               arith,
-              after_few (name s lists kind (part t start end)) (names_from t to fuel end tt),
-              few kind (part t start end),
-              rec end tt,
-              mul-le-mul_right {m = suc ((to - end) / 2)} {n = (to - at) / 2} ((l + 2) / 4) (omega (arith, g.0, g.1)),
+              after_few (name s lists v.kind (part t v.start v.end)) (names_from t to fuel v.end tt),
+              few v.kind (part t v.start v.end),
+              rec v.end tt,
+              mul-le-mul_right {m = suc ((to - v.end) / 2)} {n = (to - at) / 2} ((l + 2) / 4) (omega (arith, g.0, g.1)),
             )
-        by true (NoName x) e rec = omega arith
+        by true (Err x) e rec = omega arith
         by false n e rec = omega arith
 
     certificate_few : (n : ℕ) → (certificate_as s lists (lent (cert n))).taken ≤ each
@@ -173,7 +166,7 @@ module _ (cert : ℕ → List ℕ) (m l : ℕ)
             after
             (alternatives s lists (cert n) c.known.alternative_name.start c.known.alternative_name.end)
             (name s lists directory_name (part (cert n) c.subject.start c.subject.end)))).taken ≤ each
-        by (Accepted c) e =
+        by (Ok c) e =
             let from = c.known.alternative_name.start in
             let to = c.known.alternative_name.end in
             omega (
@@ -183,7 +176,7 @@ module _ (cert : ℕ → List ℕ) (m l : ℕ)
               few directory_name (part (cert n) c.subject.start c.subject.end),
               mul-le-mul_right {m = (to - from) / 2} {n = m / 2} ((l + 2) / 4) (omega (arith, names n c e)),
             )
-        by (NotRead e) h = omega arith
+        by (Err e) h = omega arith
 
     below_few : (path : List ℕ) → (below_in s lists (map lent (map cert path))).taken ≤ length path * each
     unfolding below_in
@@ -198,15 +191,15 @@ module _ (cert : ℕ → List ℕ) (m l : ℕ)
       over true = refl
       over false = refl
 
-      by : (g : Lists) → subtrees_at s from to ≡ g → (on_lists g (tally 0) (λ lists. after (below_in s lists (map lent (map cert path))) (left_over lists.excluded.end to))).taken ≤ length path * each
-      by (Are lists) e =
+      by : (g : Result Subtrees ℕ) → subtrees_at s from to ≡ g → (on_lists g (tally 0) (λ lists. after (below_in s lists (map lent (map cert path))) (left_over lists.excluded.end to))).taken ≤ length path * each
+      by (Ok lists) e =
           omega (
             arith,
             after_few (below_in s lists (map lent (map cert path))) (left_over lists.excluded.end to),
             over (eqb lists.excluded.end to),
             below_few s lists (λ kind p. omega (arith, few, name_few s from to lists e kind p)) path,
           )
-      by (NoLists e) h = omega arith
+      by (Err e) h = omega arith
 
   own_few : (n : ℕ) (path : List ℕ) → (own_in (lent (cert n)) (map lent (map cert path))).taken ≤ length path * each
   unfolding own_in on_read
@@ -217,13 +210,13 @@ module _ (cert : ℕ → List ℕ) (m l : ℕ)
           cond c.known.name_constraints.known
           (constraints_in (cert n) c.known.name_constraints.start c.known.name_constraints.end (map lent (map cert path)))
           clean)).taken ≤ length path * each
-      by (Accepted c) e = go c.known.name_constraints.known refl
+      by (Ok c) e = go c.known.name_constraints.known refl
         where
           go : (t : Bool) → c.known.name_constraints.known ≡ t
               → (cond t (constraints_in (cert n) c.known.name_constraints.start c.known.name_constraints.end (map lent (map cert path))) clean).taken ≤ length path * each
           go true h = constraints_few (cert n) c.known.name_constraints.start c.known.name_constraints.end (own n c e h) path
           go false h = omega arith
-      by (NotRead e) h = omega arith
+      by (Err e) h = omega arith
 
   issuers_few : (path : List ℕ) → (issuers_in (map lent (map cert path))).taken ≤ pairs (length path) * each
   unfolding issuers_in pairs

@@ -7,9 +7,7 @@ use native.Mathlib.Omega.{arith}
 use lib.ListN.{length}
 use Rattle.refusal.specs.Refusals.{is_fatal}
 use Rattle.refusal.proofs.Laws.{Mild, mild_not_fatal}
-use Rattle.cert.specs.declared.Reading.{Reading}
-use Rattle.cert.specs.declared.Reading.TheVariants.{Accepted, Refused as NotRead}
-use Rattle.cert.specs.Model.{read_certificate}
+use Rattle.cert.specs.Model.{read_certificate, Reading}
 use Rattle.cert.proofs.Refusals.{ReadingFair, reading_not, read_fair}
 use Rattle.checks.proofs.Skeletons.{certificate_reads}
 use Rattle.candidate.proofs.Verdicts.{anchor_sound, extend_sound}
@@ -35,6 +33,7 @@ use Rattle.conditions.proofs.Lent.{bytes}
 use Rattle.conditions.proofs.Paths.{Answered, stands, meets_acceptable}
 use Rattle.conditions.proofs.Names.{good_named, named_good, name_mild}
 use Rattle.conditions.proofs.Closed.{Came, unread as end_unread, found, misnamed, none, out, came}
+use Rattle.std.specs.Prelude.{Ok, Err}
 
 clash : {P : Type 0} {k x : ℕ} {p : Path} → accepted k p ≡ refused x → P
 clash e = let z : ◌≡◌ {A = ℕ} 0 1 = cc in absurd (omega arith)
@@ -84,18 +83,18 @@ module _ (R : Request) (lent : Lends R) where
     extended = λ path i e. (extend_sound R.issuers R.end R.subjects R.keys R.constraints R.bound R.distrusted path i (bytes R lent) e).candidate;
   }
 
-  unread_mild : (x : ℕ) → read_certificate R.end true ≡ NotRead x → Mild x
+  unread_mild : (x : ℕ) → read_certificate R.end true ≡ Err x → Mild x
   unread_mild x e = by (read_certificate R.end true) e (read_fair R.end true)
     where
-      by : (r : Reading) → r ≡ NotRead x → ReadingFair r → Mild x
-      by (Accepted c) e f = let z : ◌≡◌ {A = ℕ} 0 1 = cc in absurd (omega arith)
-      by (NotRead y) e (reading_not f) = let z : y ≡ x = cc in omega (arith, f.1)
+      by : (r : Reading) → r ≡ Err x → ReadingFair r → Mild x
+      by (Ok c) e f = let z : ◌≡◌ {A = ℕ} 0 1 = cc in absurd (omega arith)
+      by (Err y) e (reading_not f) = let z : y ≡ x = cc in omega (arith, f.1)
 
   -- the conditions cannot be met where the end entity cannot be read
-  unread_unnamed : (x : ℕ) → read_certificate R.end true ≡ NotRead x → Named R → ⊥
+  unread_unnamed : (x : ℕ) → read_certificate R.end true ≡ Err x → Named R → ⊥
   unread_unnamed x e n =
       let r = certificate_reads R.end n.contents n.readable in
-      let q : Accepted r.0 ≡ NotRead x = sym r.1 ∙ e in
+      let q : Ok r.0 ≡ Err x = sym r.1 ∙ e in
       let z : ◌≡◌ {A = ℕ} 0 1 = cc in omega arith
 
   module _ (B : Budgets) (turns : List Turn) where
@@ -150,7 +149,7 @@ module _ (R : Request) (lent : Lends R) where
       which x e = by (came R B turns r h)
         where
           by : Came R B turns r → Which R B turns x
-          by (end_unread y u t z) = let q : y ≡ x = cc in unread (u ∙ ap NotRead q) t
+          by (end_unread y u t z) = let q : y ≡ x = cc in unread (u ∙ ap Err q) t
           by (found j q l g z) = clash (sym z ∙ e)
           by (misnamed j q y l g z) = let i : suc y ≡ x = cc in other_name j q l (g ∙ i) (λ m. omega (arith, sym g ∙ named_good R lent m))
           by (none y l z) = no_path ((looked (refused y) l).which x (sym z ∙ e))
@@ -160,7 +159,7 @@ module _ (R : Request) (lent : Lends R) where
       not_fatal x e = by (came R B turns r h)
         where
           by : Came R B turns r → is_fatal x ≡ false
-          by (end_unread y u t z) = let q : y ≡ x = cc in mild_not_fatal x (unread_mild x (u ∙ ap NotRead q))
+          by (end_unread y u t z) = let q : y ≡ x = cc in mild_not_fatal x (unread_mild x (u ∙ ap Err q))
           by (found j q l g z) = clash (sym z ∙ e)
           by (misnamed j q y l g z) = let i : suc y ≡ x = cc in mild_not_fatal x (subst (λ (w : ℕ). Mild w) (g ∙ i) (name_mild R lent))
           by (none y l z) = (looked (refused y) l).not_fatal x (sym z ∙ e)

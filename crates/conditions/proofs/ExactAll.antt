@@ -12,12 +12,9 @@ use Rattle.der.specs.Places.{Bytes, part}
 use Rattle.der.proofs.Parts.{part_split, part_whole}
 use Rattle.entries.specs.Tally.{Tally, tally, clean, after}
 use Rattle.cert.specs.declared.Certificate.{Certificate}
-use Rattle.cert.specs.declared.Reading.TheVariants.{Accepted}
 use Rattle.cert.specs.Model.{read_certificate}
 use Rattle.cert.proofs.Laws.{read_inside}
 use Rattle.subtrees.specs.declared.Subtrees.{Subtrees}
-use Rattle.subtrees.specs.declared.Lists.{Lists}
-use Rattle.subtrees.specs.declared.Lists.TheVariants.{Are, Refused as NoLists}
 use Rattle.subtrees.specs.Noted.{lent}
 use Rattle.subtrees.specs.Model.{subtrees_at}
 use Rattle.subtrees.proofs.Accepted.{both_pass}
@@ -39,10 +36,11 @@ use Rattle.conditions.specs.Exactly.{Met, Own, Issuers, Passes, ExactlyMet, cons
 use Rattle.subtrees.proofs.ExactLists.{permitted_in, excluded_in, after_passes}
 use Rattle.subtrees.proofs.Fields.{subtrees_found, subtrees_read}
 use Rattle.conditions.proofs.ExactPath.{Are', below_exact, below_read, below_clean}
+use Rattle.std.specs.Prelude.{Ok, Err, Result}
 
 -- ---- one issuer's constraints
 module _ (s : List ℕ) (bytes : Bytes s) (from to : ℕ) (t : List ℕ) (ts : List (List ℕ)) (o : Contents) (os : List Contents) (bs : EachBytes (t ∷ ts)) (are : Are' (t ∷ ts) (o ∷ os)) where
-  lists_met : (lists : Subtrees) → subtrees_at s from to ≡ Are lists → lists.excluded.end ≡ to → (below s lists (t ∷ ts)).refusal ≡ 0 → Met Passes (part s from to) (o ∷ os)
+  lists_met : (lists : Subtrees) → subtrees_at s from to ≡ Ok lists → lists.excluded.end ≡ to → (below s lists (t ∷ ts)).refusal ≡ 0 → Met Passes (part s from to) (o ∷ os)
   unfolding EachBytes Are'
   lists_met lists e h z =
       let l = subtrees_read s bytes from to lists e in
@@ -68,16 +66,16 @@ module _ (s : List ℕ) (bytes : Bytes s) (from to : ℕ) (t : List ℕ) (ts : L
   constraints_exact : (constraints s from to (t ∷ ts)).refusal ≡ 0 → Met Passes (part s from to) (o ∷ os)
   constraints_exact z = go (subtrees_at s from to) refl
     where
-      by_end : (lists : Subtrees) → subtrees_at s from to ≡ Are lists → (after (below s lists (t ∷ ts)) (cond (eqb lists.excluded.end to) clean (tally 0 bad_der))).refusal ≡ 0 → (x : Bool) → eqb lists.excluded.end to ≡ x → Met Passes (part s from to) (o ∷ os)
+      by_end : (lists : Subtrees) → subtrees_at s from to ≡ Ok lists → (after (below s lists (t ∷ ts)) (cond (eqb lists.excluded.end to) clean (tally 0 bad_der))).refusal ≡ 0 → (x : Bool) → eqb lists.excluded.end to ≡ x → Met Passes (part s from to) (o ∷ os)
       by_end lists e y true h = lists_met lists e (eqb-true _ _ h) (both_pass _ _ y).first
       by_end lists e y false h = absurd (let q : bad_der ≡ 0 = rw h at (both_pass (below s lists (t ∷ ts)) (cond (eqb lists.excluded.end to) clean (tally 0 bad_der)) y).second in omega arith)
 
-      go : (l : Lists) → subtrees_at s from to ≡ l → Met Passes (part s from to) (o ∷ os)
-      go (Are lists) e =
+      go : (l : Result Subtrees ℕ) → subtrees_at s from to ≡ l → Met Passes (part s from to) (o ∷ os)
+      go (Ok lists) e =
           let q = constraints_are s from to (map lent (t ∷ ts)) lists e in
           by_end lists e (ap (λ (x : Tally). x.refusal) (sym q) ∙ z) (eqb lists.excluded.end to) refl
-      go (NoLists x) e =
-          let n : Listed (NoLists x) = rw e at (lists_listed s from to) in
+      go (Err x) e =
+          let n : Listed (Err x) = rw e at (lists_listed s from to) in
           absurd (n (ap (λ (y : Tally). y.refusal) (sym (constraints_none s from to (map lent (t ∷ ts)) x e)) ∙ z))
 
   constraints_clean : from ≤ to → to ≤ length s → Met Passes (part s from to) (o ∷ os) → (constraints s from to (t ∷ ts)).refusal ≡ 0
@@ -92,7 +90,7 @@ module _ (t : List ℕ) (bt : Bytes t) (p : Contents) (isc : IsCertificate t p) 
   own_both : ((own t (d ∷ ds)).refusal ≡ 0 → Own Passes p.name_constraints (o ∷ os)) × (Own Passes p.name_constraints (o ∷ os) → (own t (d ∷ ds)).refusal ≡ 0)
   own_both = let r = certificate_reads t p isc in go r.0 r.1 r.2
     where
-      go : (c : Certificate) → read_certificate t true ≡ Accepted c → contents_of t c ≡ p → ((own t (d ∷ ds)).refusal ≡ 0 → Own Passes p.name_constraints (o ∷ os)) × (Own Passes p.name_constraints (o ∷ os) → (own t (d ∷ ds)).refusal ≡ 0)
+      go : (c : Certificate) → read_certificate t true ≡ Ok c → contents_of t c ≡ p → ((own t (d ∷ ds)).refusal ≡ 0 → Own Passes p.name_constraints (o ∷ os)) × (Own Passes p.name_constraints (o ∷ os) → (own t (d ∷ ds)).refusal ≡ 0)
       go c e f = by c.known.name_constraints.known refl
         where
           from : ℕ

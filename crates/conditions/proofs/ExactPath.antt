@@ -11,8 +11,6 @@ use Rattle.der.specs.Places.{Bytes, part}
 use Rattle.der.specs.X690.{encoding}
 use Rattle.der.specs.Loop.{run, walk}
 use Rattle.der.proofs.Parts.{part_length}
-use Rattle.names.specs.declared.general.Name.{Name}
-use Rattle.names.specs.declared.general.Name.TheVariants.{Found, Refused as NoName}
 use Rattle.names.specs.Model.{general_name}
 use Rattle.names.specs.General.{General, Named, encoded, Each}
 use Rattle.names.proofs.Rows.{read_name, named_at}
@@ -22,7 +20,6 @@ use Rattle.entries.specs.Model.{on_name}
 use Rattle.entries.proofs.Refusals.{Called, name_called}
 use Rattle.subtrees.specs.declared.Subtrees.{Subtrees}
 use Rattle.cert.specs.declared.Certificate.{Certificate}
-use Rattle.cert.specs.declared.Reading.TheVariants.{Accepted}
 use Rattle.cert.specs.Model.{read_certificate}
 use Rattle.cert.specs.Layout.{places}
 use Rattle.cert.proofs.Sound.{sound}
@@ -42,6 +39,8 @@ use Rattle.conditions.proofs.Names.{known_empty}
 use Rattle.subtrees.proofs.Accepted.{both_pass, part_empty, bytes_part}
 use Rattle.subtrees.specs.ExactNames.{Exactly}
 use Rattle.subtrees.proofs.ExactLists.{BothAt, ListsRead, permitted_in, excluded_in, name_clean, name_exact, any_directory, after_passes}
+use Rattle.std.specs.Prelude.{Err, Ok, Result}
+use Rattle.names.specs.declared.general.Name.{Name}
 
 -- ---- alternative names
 pub record NamesRead (permitted excluded : List General) (content : List ℕ) : Type 0 where
@@ -60,20 +59,20 @@ module _ (s : List ℕ) (lists : Subtrees) (t : List ℕ) (bt : Bytes t) (to : �
     names_exact zero at h z = record { names = []; is = part_empty t at to (omega arith); named = tt; conform = tt }
     names_exact (suc fuel) at h z = by_test (λ at' h' z'. names_exact fuel at' h' z') (ltb at to) refl z
       where
-        found : ((at' : ℕ) → to - at' ≤ fuel → (names_from fuel at').refusal ≡ 0 → NamesRead (permitted_in s bytes lists) (excluded_in s bytes lists) (part t at' to)) → (g : Name) → general_name t at to ≡ g
+        found : ((at' : ℕ) → to - at' ≤ fuel → (names_from fuel at').refusal ≡ 0 → NamesRead (permitted_in s bytes lists) (excluded_in s bytes lists) (part t at' to)) → (g : Result Name ℕ) → general_name t at to ≡ g
             → (on_name g (tally 0) (λ kind start end. after (name s lists kind (part t start end)) (names_from fuel end))).refusal ≡ 0 → NamesRead (permitted_in s bytes lists) (excluded_in s bytes lists) (part t at to)
-        found rec (Found kind start end) e y =
-            let b = both_pass (name s lists kind (part t start end)) (names_from fuel end) y in
-            let n : General = record { kind = kind; content = part t start end } in
-            let here = named_at t bt at to kind start end e in
-            let r = rec end (omega (arith, here.1.1.0, h)) b.second in
+        found rec (Ok v) e y =
+            let b = both_pass (name s lists v.kind (part t v.start v.end)) (names_from fuel v.end) y in
+            let n : General = record { kind = v.kind; content = part t v.start v.end } in
+            let here = named_at t bt at to v.kind v.start v.end e in
+            let r = rec v.end (omega (arith, here.1.1.0, h)) b.second in
             record {
               names = n ∷ r.names;
-              is = here.1.0 ∙ ap (λ (u : List ℕ). encoding kind (part t start end) ++ u) r.is;
+              is = here.1.0 ∙ ap (λ (u : List ℕ). encoding v.kind (part t v.start v.end) ++ u) r.is;
               named = (here.0, r.named);
-              conform = ((name_exact s bytes lists n (bytes_part t start end bt) b.first).1, r.conform);
+              conform = ((name_exact s bytes lists n (bytes_part t v.start v.end bt) b.first).1, r.conform);
             }
-        found rec (NoName x) e y = let n : Called (NoName x) = rw e at (name_called t at to) in absurd (n y)
+        found rec (Err x) e y = let n : Called (Err x) = rw e at (name_called t at to) in absurd (n y)
 
         by_test : ((at' : ℕ) → to - at' ≤ fuel → (names_from fuel at').refusal ≡ 0 → NamesRead (permitted_in s bytes lists) (excluded_in s bytes lists) (part t at' to)) → (b : Bool) → ltb at to ≡ b
             → (cond b (next_name s lists t (general_name t at to) (λ a (u : Unit {0}). names_from fuel a)) clean).refusal ≡ 0 → NamesRead (permitted_in s bytes lists) (excluded_in s bytes lists) (part t at to)
@@ -93,7 +92,7 @@ module _ (s : List ℕ) (lists : Subtrees) (t : List ℕ) (bt : Bytes t) (to : �
         rw (lt-ltb at to (omega (arith, r.later, r.inside)), r.name) (after_passes (name s lists n.kind (part t r.start r.end)) (names_from fuel r.end) z w)
 
 -- ---- one certificate
-module _ (t : List ℕ) (bt : Bytes t) (c : Certificate) (read : read_certificate t true ≡ Accepted c) where
+module _ (t : List ℕ) (bt : Bytes t) (c : Certificate) (read : read_certificate t true ≡ Ok c) where
   abbrev names_of_cert : List ℕ
   names_of_cert = part t c.known.alternative_name.start c.known.alternative_name.end
 

@@ -14,17 +14,13 @@ use Rattle.refusal.proofs.Laws.{Mild}
 use Rattle.der.specs.Places.{part}
 use Rattle.der.proofs.Parts.{part_none}
 use Rattle.cert.specs.declared.Certificate.{Certificate}
-use Rattle.cert.specs.declared.Reading.{Reading}
-use Rattle.cert.specs.declared.Reading.TheVariants.{Accepted, Refused as NotRead}
-use Rattle.cert.specs.Model.{read_certificate}
+use Rattle.cert.specs.Model.{read_certificate, Reading}
 use Rattle.extensions.specs.Rfc5280.{Extension, Extensions, missing, present as given, extension, is_number}
 use Rattle.extensions.specs.Layout.{kept_of, slot_for, slots, known_at}
 use Rattle.cert.specs.Layout.{places}
 use Rattle.cert.proofs.Sound.{sound}
 use Rattle.cert.proofs.Laws.{read_inside}
 use Rattle.cert.proofs.Refusals.{ReadingFair, reading_not, read_fair}
-use Rattle.names.specs.declared.general.Verdict.{Verdict}
-use Rattle.names.specs.declared.general.Verdict.TheVariants.{Good, Refused}
 use Rattle.labels.specs.Names.{wanted_name}
 use Rattle.names.specs.General.{ForDns, ForIp, Reached}
 use Rattle.names.specs.Model.{good_for_dns, good_for_ip}
@@ -36,6 +32,7 @@ use Rattle.checks.proofs.Skeletons.{reads_certificate, certificate_reads}
 use Rattle.conditions.specs.Request.{Request}
 use Rattle.conditions.specs.Model.{refusal_in, name_in, name_of}
 use Rattle.conditions.specs.Conditions.{Lends, content_in, Names, unwanted, dns, ip, Named}
+use Rattle.std.specs.Prelude.{Ok, Err, Result, ⊤}
 
 true_false : {P : Type 0} → true ≡ false → P
 true_false e = let z : ◌≡◌ {A = ℕ} 0 1 = cc in absurd (omega arith)
@@ -61,7 +58,7 @@ module _ (R : Request) (lent : Lends R) where
   abbrev names : Certificate → List ℕ
   names c = part R.end c.known.alternative_name.start c.known.alternative_name.end
 
-  module _ (c : Certificate) (read : read_certificate R.end true ≡ Accepted c) where
+  module _ (c : Certificate) (read : read_certificate R.end true ≡ Ok c) where
     no_names : c.known.alternative_name.known ≡ false → names c ≡ []
     unfolding places
     no_names h =
@@ -81,35 +78,35 @@ module _ (R : Request) (lent : Lends R) where
 
     -- ---- each kind of name
     module _ (from to : ℕ) (ordered : from ≤ to) (inside : to ≤ length R.end) where
-      dns_names : (v : Verdict) → good_for_dns R.end from to R.name ≡ v → refusal_in v ≡ 0 → (wanted_name R.name ≡ true) × Reached (ForDns R.name) (part R.end from to)
+      dns_names : (v : Result ⊤ ℕ) → good_for_dns R.end from to R.name ≡ v → refusal_in v ≡ 0 → (wanted_name R.name ≡ true) × Reached (ForDns R.name) (part R.end from to)
       unfolding refusal_in
       dns_names v e h = by (wanted_name R.name) refl v e h
         where
-          by : (t : Bool) → wanted_name R.name ≡ t → (v : Verdict) → good_for_dns R.end from to R.name ≡ v → refusal_in v ≡ 0 → (wanted_name R.name ≡ true) × Reached (ForDns R.name) (part R.end from to)
-          by true w Good e h = (w, (dns_good R.name w R.end lent.end from to ordered inside).0 e)
-          by true w (Refused x) e h =
+          by : (t : Bool) → wanted_name R.name ≡ t → (v : Result ⊤ ℕ) → good_for_dns R.end from to R.name ≡ v → refusal_in v ≡ 0 → (wanted_name R.name ≡ true) × Reached (ForDns R.name) (part R.end from to)
+          by true w (Ok tt) e h = (w, (dns_good R.name w R.end lent.end from to ordered inside).0 e)
+          by true w (Err x) e h =
               absurd (⊎_elim (λ p. omega (arith, p.0)) (λ p. omega (arith, p.0)) (dns_refused R.name w R.end lent.end from to ordered inside x e))
-          by false w Good e h = absurd (let q = sym e ∙ dns_malformed R.end from to R.name w in let z : ◌≡◌ {A = ℕ} 0 1 = cc in omega arith)
-          by false w (Refused x) e h = absurd (let q = sym e ∙ dns_malformed R.end from to R.name w in let z : x ≡ malformed_dns_identifier = cc in omega arith)
+          by false w (Ok tt) e h = absurd (let q = sym e ∙ dns_malformed R.end from to R.name w in let z : ◌≡◌ {A = ℕ} 0 1 = cc in omega arith)
+          by false w (Err x) e h = absurd (let q = sym e ∙ dns_malformed R.end from to R.name w in let z : x ≡ malformed_dns_identifier = cc in omega arith)
 
-      ip_names : (v : Verdict) → good_for_ip R.end from to R.name ≡ v → refusal_in v ≡ 0 → Reached (ForIp R.name) (part R.end from to)
+      ip_names : (v : Result ⊤ ℕ) → good_for_ip R.end from to R.name ≡ v → refusal_in v ≡ 0 → Reached (ForIp R.name) (part R.end from to)
       unfolding refusal_in
-      ip_names Good e h = (ip_good R.name R.end lent.end from to ordered inside).0 e
-      ip_names (Refused x) e h = absurd (⊎_elim (λ p. omega (arith, p.0)) (λ p. omega (arith, p.0)) (ip_refused R.name R.end lent.end from to ordered inside x e))
+      ip_names (Ok tt) e h = (ip_good R.name R.end lent.end from to ordered inside).0 e
+      ip_names (Err x) e h = absurd (⊎_elim (λ p. omega (arith, p.0)) (λ p. omega (arith, p.0)) (ip_refused R.name R.end lent.end from to ordered inside x e))
 
-      dns_mild : (v : Verdict) → good_for_dns R.end from to R.name ≡ v → Mild (refusal_in v)
+      dns_mild : (v : Result ⊤ ℕ) → good_for_dns R.end from to R.name ≡ v → Mild (refusal_in v)
       unfolding refusal_in
-      dns_mild Good e = omega arith
-      dns_mild (Refused x) e = by (wanted_name R.name) refl
+      dns_mild (Ok tt) e = omega arith
+      dns_mild (Err x) e = by (wanted_name R.name) refl
         where
           by : (t : Bool) → wanted_name R.name ≡ t → Mild x
           by true w = ⊎_elim (λ p. omega (arith, p.0)) (λ p. omega (arith, p.0)) (dns_refused R.name w R.end lent.end from to ordered inside x e)
           by false w = let q = sym e ∙ dns_malformed R.end from to R.name w in let z : x ≡ malformed_dns_identifier = cc in omega arith
 
-      ip_mild : (v : Verdict) → good_for_ip R.end from to R.name ≡ v → Mild (refusal_in v)
+      ip_mild : (v : Result ⊤ ℕ) → good_for_ip R.end from to R.name ≡ v → Mild (refusal_in v)
       unfolding refusal_in
-      ip_mild Good e = omega arith
-      ip_mild (Refused x) e = ⊎_elim (λ p. omega (arith, p.0)) (λ p. omega (arith, p.0)) (ip_refused R.name R.end lent.end from to ordered inside x e)
+      ip_mild (Ok tt) e = omega arith
+      ip_mild (Err x) e = ⊎_elim (λ p. omega (arith, p.0)) (λ p. omega (arith, p.0)) (ip_refused R.name R.end lent.end from to ordered inside x e)
 
     abbrev from : ℕ
     from = c.known.alternative_name.start
@@ -156,12 +153,12 @@ module _ (R : Request) (lent : Lends R) where
   good_named h = by (read_certificate R.end true) refl (read_fair R.end true) h
     where
       by : (r : Reading) → read_certificate R.end true ≡ r → ReadingFair r → on_reading r (λ e. e) (name_in R.end R.kind R.name) ≡ 0 → Named R
-      by (Accepted c) e f h = record {
+      by (Ok c) e f h = record {
         contents = contents_of R.end c;
         readable = reads_certificate R.end lent.end (contents_of R.end c) (c, e, refl);
         names = subst (λ (l : List ℕ). Names R l) (sym (content_is c e)) (good_names c e h);
       }
-      by (NotRead x) e (reading_not f) h = absurd (omega (arith, f.0))
+      by (Err x) e (reading_not f) h = absurd (omega (arith, f.0))
 
   pub named_good : Named R → name_of R.end R.kind R.name ≡ 0
   unfolding name_of on_reading
@@ -176,5 +173,5 @@ module _ (R : Request) (lent : Lends R) where
   name_mild = by (read_certificate R.end true) refl (read_fair R.end true)
     where
       by : (r : Reading) → read_certificate R.end true ≡ r → ReadingFair r → Mild (on_reading r (λ e. e) (name_in R.end R.kind R.name))
-      by (Accepted c) e f = name_in_mild c e
-      by (NotRead x) e (reading_not f) = f.1
+      by (Ok c) e f = name_in_mild c e
+      by (Err x) e (reading_not f) = f.1

@@ -6,7 +6,6 @@ use mathlib.Core.List.Memᴰ
 use mathlib.Core.List.{List, [], ◌∷◌, Memᴰ}
 use native.Mathlib.Omega.{arith}
 use lib.ListN.{length, get_or}
-use Rattle.cert.specs.declared.Reading.TheVariants.{Accepted}
 use Rattle.candidate.specs.declared.Verdict.TheVariants.{Anchor, Extend}
 use Rattle.lent.specs.Lent.{most_intermediates, newest}
 use Rattle.checks.specs.Conditions.{Contents, Role, issuer, InValidity, InRole, ForPurpose}
@@ -31,13 +30,14 @@ use Rattle.conditions.specs.Meets.{Stands, Meets}
 use Rattle.conditions.specs.Claims.{passed}
 use Rattle.conditions.proofs.Lent.{bytes}
 use Rattle.conditions.proofs.ExactAll.{exactly}
+use Rattle.std.specs.Prelude.{Ok}
 
 -- one string has one list of contents
 one_contents : (s : List ℕ) (o p : Contents) → IsCertificate s o → IsCertificate s p → o ≡ p
 one_contents s o p a b =
     let x = certificate_reads s o a in
     let y = certificate_reads s p b in
-    let e : Accepted x.0 ≡ Accepted y.0 = sym x.1 ∙ y.1 in
+    let e : Ok x.0 ≡ Ok y.0 = sym x.1 ∙ y.1 in
     let c : x.0 ≡ y.0 = cc in
     sym x.2 ∙ ap (contents_of s) c ∙ y.2
 

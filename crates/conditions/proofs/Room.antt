@@ -10,7 +10,6 @@ use borrow.Author.Tests.{eqb-true}
 use Rattle.der.specs.Places.{part}
 use Rattle.der.proofs.Parts.{part_length}
 use Rattle.cert.specs.declared.Certificate.{Certificate}
-use Rattle.cert.specs.declared.Reading.TheVariants.{Accepted}
 use Rattle.cert.specs.Model.{read_certificate}
 use Rattle.cert.proofs.Laws.{read_inside}
 use Rattle.checks.specs.Skeletons.{IsCertificate}
@@ -32,6 +31,7 @@ use Rattle.conditions.proofs.Lent.{bytes}
 use Rattle.conditions.proofs.ExactPath.{content_is}
 use Rattle.conditions.proofs.Costs.{path_few}
 use Rattle.conditions.proofs.Decided.{sorted}
+use Rattle.std.specs.Prelude.{Ok}
 
 is_on_path : (i : ℕ) (path : Path) → some_of (λ n. eqb n i) path ≡ true → Memᴰ i path
 unfolding some_of
@@ -44,10 +44,10 @@ is_on_path i (n ∷ path) h = by (eqb n i) refl h (is_on_path i path)
 
 module _ (R : Request) (lent : Lends R) where
   module _ (names lists : ℕ) (sizes : Sizes R names lists) where
-    contents : (n : ℕ) (c : Certificate) → read_certificate (bytes_of R n) true ≡ Accepted c → IsCertificate (bytes_of R n) (contents_of (bytes_of R n) c)
+    contents : (n : ℕ) (c : Certificate) → read_certificate (bytes_of R n) true ≡ Ok c → IsCertificate (bytes_of R n) (contents_of (bytes_of R n) c)
     contents n c e = reads_certificate (bytes_of R n) (bytes R lent n) (contents_of (bytes_of R n) c) (c, e, refl)
 
-    names_short : (n : ℕ) (c : Certificate) → read_certificate (bytes_of R n) true ≡ Accepted c → c.known.alternative_name.end - c.known.alternative_name.start ≤ names
+    names_short : (n : ℕ) (c : Certificate) → read_certificate (bytes_of R n) true ≡ Ok c → c.known.alternative_name.end - c.known.alternative_name.start ≤ names
     names_short n c e =
         let t = bytes_of R n in
         let i = (read_inside t (bytes R lent n) true c e).known.alternative_name.inside in
@@ -58,7 +58,7 @@ module _ (R : Request) (lent : Lends R) where
           part_length t c.known.alternative_name.start c.known.alternative_name.end i,
         )
 
-    own_short : (n : ℕ) (c : Certificate) → read_certificate (bytes_of R n) true ≡ Accepted c → c.known.name_constraints.known ≡ true
+    own_short : (n : ℕ) (c : Certificate) → read_certificate (bytes_of R n) true ≡ Ok c → c.known.name_constraints.known ≡ true
         → c.known.name_constraints.end - c.known.name_constraints.start ≤ lists
     unfolding content_in
     own_short n c e h =

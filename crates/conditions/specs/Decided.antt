@@ -1,7 +1,6 @@
 -- What every dialogue with a request decides, whatever the caller answers.
-use Rattle.std.specs.Prelude.{ℕ, suc, ◌+◌, ◌*◌, ◌≤◌, ◌≡◌, true, false, List, [], ◌∷◌, ◌++◌, length, take}
+use Rattle.std.specs.Prelude.{ℕ, suc, ◌+◌, ◌*◌, ◌≤◌, ◌≡◌, true, false, List, [], ◌∷◌, ◌++◌, length, take, Err}
 use Rattle.refusal.specs.Refusals.{is_fatal, unknown_issuer}
-use Rattle.cert.specs.declared.Reading.TheVariants.{Refused as Unreadable}
 use Rattle.cert.specs.Model.{read_certificate}
 use Rattle.dialogue.specs.Log.{Turn, word, SaidYes, SaidContent, NotDenied, NotDeclined, yeses, EndsWith}
 use Rattle.dialogue.specs.Model.{Path, Outcome, accepted, refused, spent, events}
@@ -17,7 +16,7 @@ module _ (R : Request) (B : Budgets) (turns : List Turn) where
   -- which no
   pub data Which (x : ℕ) : Type 0 where
     -- the end entity cannot be read: why, before anything is asked
-    unread : read_certificate R.end true ≡ Unreadable x → turns ≡ [] → Which x
+    unread : read_certificate R.end true ≡ Err x → turns ≡ [] → Which x
     -- there is no path: of all that was noted, in the order of the search, the first of the highest rank
     no_path : Exhausted (world_for R) (end_of R) turns x → Which x
     -- there is one, and the end entity is not good for the wanted name: why
@@ -25,7 +24,7 @@ module _ (R : Request) (B : Budgets) (turns : List Turn) where
 
   -- what was done: nothing where the end entity cannot be read, else a search, with its account. A, I: anchors and intermediates; S, C, N: the budgets
   pub data Work : Type 0 where
-    nothing : (x : ℕ) → read_certificate R.end true ≡ Unreadable x → turns ≡ [] → Work
+    nothing : (x : ℕ) → read_certificate R.end true ≡ Err x → turns ≡ [] → Work
     searched : (found : Outcome) → Leads (search_of R B) turns found
         → (account : Account (world_for R) (events (world_for R) (end_of R)) B.signatures B.extensions B.comparisons unknown_issuer turns found)
         -- at most C extensions, and N comparisons, those of an accepted path among them

@@ -1,10 +1,8 @@
 -- The dialogue that a request is: the end entity is read, a path is searched, and the end entity must be good for the name.
-use Rattle.std.specs.Prelude.{ℕ, true, cond, List, eqb}
+use Rattle.std.specs.Prelude.{ℕ, true, cond, List, eqb, Ok, Err, Result, ⊤}
 use Rattle.refusal.specs.Refusals.{cert_not_valid_for_name}
 use Rattle.cert.specs.declared.Certificate.{Certificate}
 use Rattle.cert.specs.Model.{read_certificate}
-use Rattle.names.specs.declared.general.Verdict.{Verdict}
-use Rattle.names.specs.declared.general.Verdict.TheVariants.{Good, Refused}
 use Rattle.names.specs.Model.{good_for_dns, good_for_ip}
 use Rattle.path.specs.Model.{on_reading}
 use Rattle.dialogue.specs.Model.{World, Outcome, accepted, refused, spent, Tree, done, ask, offer, unless, search}
@@ -12,9 +10,9 @@ use Rattle.machine.specs.World.{world_of}
 use Rattle.conditions.specs.Request.{Request, Budgets, end_of}
 
 -- ---- the name: a refusal or none
-unfoldable pub refusal_in : Verdict → ℕ
-refusal_in Good = 0
-refusal_in (Refused e) = e
+unfoldable pub refusal_in : Result ⊤ ℕ → ℕ
+refusal_in (Ok tt) = 0
+refusal_in (Err e) = e
 
 -- no certificate is good for a name of an unknown kind
 unfoldable pub name_in : List ℕ → ℕ → List ℕ → Certificate → ℕ

@@ -14,11 +14,7 @@ use Rattle.der.specs.Places.{Bytes, part}
 use Rattle.der.specs.Loop.{run, walk}
 use Rattle.der.proofs.Parts.{part_split, part_whole}
 use Rattle.cert.specs.declared.Certificate.{Certificate}
-use Rattle.cert.specs.declared.Reading.{Reading}
-use Rattle.cert.specs.declared.Reading.TheVariants.{Accepted, Refused as NotRead}
-use Rattle.cert.specs.Model.{read_certificate}
-use Rattle.names.specs.declared.general.Name.{Name}
-use Rattle.names.specs.declared.general.Name.TheVariants.{Found, Refused as NoName}
+use Rattle.cert.specs.Model.{read_certificate, Reading}
 use Rattle.names.specs.General.{General, Named, encoded, Each}
 use Rattle.names.specs.Model.{general_name}
 use Rattle.names.proofs.Rows.{named_at}
@@ -27,8 +23,6 @@ use Rattle.entries.specs.Tally.{Tally, tally, clean, after}
 use Rattle.entries.specs.Model.{on_name}
 use Rattle.entries.proofs.Refusals.{Called, name_called}
 use Rattle.subtrees.specs.declared.Subtrees.{Subtrees}
-use Rattle.subtrees.specs.declared.Lists.{Lists}
-use Rattle.subtrees.specs.declared.Lists.TheVariants.{Are, Refused as NoLists}
 use Rattle.subtrees.specs.Rfc5280Names.{subtrees}
 use Rattle.subtrees.specs.Presents.{Presents}
 use Rattle.constraints.specs.Cost.{EachBytes, Presented, none, more, Takes, OwnTakes, IssuersTake, last, more as also, PathTakes}
@@ -40,6 +34,8 @@ use Rattle.subtrees.proofs.Accepted.{BothPass, both_pass, part_empty, bases, ent
 use Rattle.subtrees.proofs.Laws.{certificate_is, certificate_unread}
 use Rattle.subtrees.proofs.Fields.{subtrees_read}
 use Rattle.constraints.proofs.Turns.{constraints_are, constraints_none, own_bound, own_free, own_unread}
+use Rattle.std.specs.Prelude.{Ok, Err, Result}
+use Rattle.names.specs.declared.general.Name.{Name}
 
 -- ---- lists of names
 -- so many names more
@@ -113,17 +109,17 @@ module _ (s : List ℕ) (bytes : Bytes s) (lists : Subtrees) where
           count = more_names (n₁ ∷ []) ns entry_count a b one r.count;
         }
 
-    name_step : (fuel at : ℕ) (g : Name) → general_name t at to ≡ g → to - at ≤ suc fuel → (next_name s lists t g (λ a (u : Unit {0}). named_from fuel a)).refusal ≡ 0
+    name_step : (fuel at : ℕ) (g : Result Name ℕ) → general_name t at to ≡ g → to - at ≤ suc fuel → (next_name s lists t g (λ a (u : Unit {0}). named_from fuel a)).refusal ≡ 0
         → ((at' : ℕ) → to - at' ≤ fuel → (named_from fuel at').refusal ≡ 0 → NamesPassed t at' to (generals fuel t at' to) (named_from fuel at').taken)
         → NamesPassed t at to (on_name g (λ e. []) (λ kind a b. record { kind = kind; content = part t a b } ∷ generals fuel t b to)) (next_name s lists t g (λ a (u : Unit {0}). named_from fuel a)).taken
     unfolding next_name on_name
-    name_step fuel at (Found kind start end) e h z rec =
+    name_step fuel at (Ok v) e h z rec =
         let b = both_pass _ _ z in
-        let here = named_at t bt at to kind start end e in
-        let one = name_passes kind (part t start end) b.first in
-        rw b.taken (name_more at kind start end (generals fuel t end to) _ _ here.0 here.1.0 one (rec end (omega (arith, here.1.1.0)) b.second))
-    name_step fuel at (NoName x) e h z rec =
-        let n : Called (NoName x) = rw e at (name_called t at to) in
+        let here = named_at t bt at to v.kind v.start v.end e in
+        let one = name_passes v.kind (part t v.start v.end) b.first in
+        rw b.taken (name_more at v.kind v.start v.end (generals fuel t v.end to) _ _ here.0 here.1.0 one (rec v.end (omega (arith, here.1.1.0)) b.second))
+    name_step fuel at (Err x) e h z rec =
+        let n : Called (Err x) = rw e at (name_called t at to) in
         absurd (n z)
 
     names_pass : (fuel at : ℕ) → to - at ≤ fuel → (named_from fuel at).refusal ≡ 0 → NamesPassed t at to (generals fuel t at to) (named_from fuel at).taken
@@ -150,7 +146,7 @@ module _ (s : List ℕ) (bytes : Bytes s) (lists : Subtrees) where
     presents : Presents t names
     count : taken ≡ length names * entry_count
 
-  accepted_passes : (t : List ℕ) → Bytes t → (c : Certificate) → read_certificate t true ≡ Accepted c
+  accepted_passes : (t : List ℕ) → Bytes t → (c : Certificate) → read_certificate t true ≡ Ok c
       → (after (alternatives s lists t c.known.alternative_name.start c.known.alternative_name.end) (name s lists directory_name (part t c.subject.start c.subject.end))).refusal ≡ 0
       → CertPassed t (after (alternatives s lists t c.known.alternative_name.start c.known.alternative_name.end) (name s lists directory_name (part t c.subject.start c.subject.end))).taken
   unfolding Each
@@ -174,10 +170,10 @@ module _ (s : List ℕ) (bytes : Bytes s) (lists : Subtrees) where
   certificate_passes t bt z = go (read_certificate t true) refl
     where
       go : (r : Reading) → read_certificate t true ≡ r → CertPassed t (certificate s lists t).taken
-      go (Accepted c) e =
+      go (Ok c) e =
           let q = certificate_is s lists (lent t) c e in
           rw q (accepted_passes t bt c e (ap (λ (x : Tally). x.refusal) (sym q) ∙ z))
-      go (NotRead x) e = absurd (let q : bad_der ≡ 0 = ap (λ (y : Tally). y.refusal) (sym (certificate_unread s lists (lent t) x e)) ∙ z in omega arith)
+      go (Err x) e = absurd (let q : bad_der ≡ 0 = ap (λ (y : Tally). y.refusal) (sym (certificate_unread s lists (lent t) x e)) ∙ z in omega arith)
 
   -- ---- several
   record BelowPassed (cs : List (List ℕ)) (taken : ℕ) : Type 0 where
@@ -206,7 +202,7 @@ module _ (s : List ℕ) (bytes : Bytes s) (lists : Subtrees) where
 
 -- ---- one issuer's constraints
 module _ (s : List ℕ) (bytes : Bytes s) (from to : ℕ) (c : List ℕ) (cs : List (List ℕ)) (bs : EachBytes (c ∷ cs)) where
-  lists_take : (lists : Subtrees) → subtrees_at s from to ≡ Are lists → lists.excluded.end ≡ to → (below s lists (c ∷ cs)).refusal ≡ 0 → Takes (part s from to) (c ∷ cs) (below s lists (c ∷ cs)).taken
+  lists_take : (lists : Subtrees) → subtrees_at s from to ≡ Ok lists → lists.excluded.end ≡ to → (below s lists (c ∷ cs)).refusal ≡ 0 → Takes (part s from to) (c ∷ cs) (below s lists (c ∷ cs)).taken
   lists_take lists e h z =
       let l = subtrees_read s bytes from to lists e in
       let a = head_lists s bytes lists c cs bs z in
@@ -232,13 +228,13 @@ module _ (s : List ℕ) (bytes : Bytes s) (from to : ℕ) (c : List ℕ) (cs : L
   pub constraints_take : (constraints s from to (c ∷ cs)).refusal ≡ 0 → Takes (part s from to) (c ∷ cs) (constraints s from to (c ∷ cs)).taken
   constraints_take z = go (subtrees_at s from to) refl
     where
-      go : (l : Lists) → subtrees_at s from to ≡ l → Takes (part s from to) (c ∷ cs) (constraints s from to (c ∷ cs)).taken
-      go (Are lists) e =
+      go : (l : Result Subtrees ℕ) → subtrees_at s from to ≡ l → Takes (part s from to) (c ∷ cs) (constraints s from to (c ∷ cs)).taken
+      go (Ok lists) e =
           let q = constraints_are s from to (map lent (c ∷ cs)) lists e in
           let b = both_pass _ _ (ap (λ (x : Tally). x.refusal) (sym q) ∙ z) in
           by_end lists e q b (eqb lists.excluded.end to) refl
         where
-          by_end : (lists : Subtrees) → subtrees_at s from to ≡ Are lists → constraints s from to (c ∷ cs) ≡ after (below s lists (c ∷ cs)) (cond (eqb lists.excluded.end to) clean (tally 0 bad_der))
+          by_end : (lists : Subtrees) → subtrees_at s from to ≡ Ok lists → constraints s from to (c ∷ cs) ≡ after (below s lists (c ∷ cs)) (cond (eqb lists.excluded.end to) clean (tally 0 bad_der))
               → BothPass (below s lists (c ∷ cs)) (cond (eqb lists.excluded.end to) clean (tally 0 bad_der)) → (t : Bool) → eqb lists.excluded.end to ≡ t
               → Takes (part s from to) (c ∷ cs) (constraints s from to (c ∷ cs)).taken
           by_end lists e q b true h =
@@ -246,8 +242,8 @@ module _ (s : List ℕ) (bytes : Bytes s) (from to : ℕ) (c : List ℕ) (cs : L
               ap (λ (x : Tally). x.taken) q ∙ b.taken ∙ rw h (omega arith) in
               rw n (lists_take lists e (eqb-true _ _ h) b.first)
           by_end lists e q b false h = absurd (let y : bad_der ≡ 0 = rw h at b.second in omega arith)
-      go (NoLists x) e =
-          let n : Listed (NoLists x) = rw e at (lists_listed s from to) in
+      go (Err x) e =
+          let n : Listed (Err x) = rw e at (lists_listed s from to) in
           absurd (n (ap (λ (y : Tally). y.refusal) (sym (constraints_none s from to (map lent (c ∷ cs)) x e)) ∙ z))
 
 -- ---- an issuer, the issuers, the path
@@ -255,7 +251,7 @@ own_take : (t : List ℕ) → Bytes t → (c : List ℕ) (cs : List (List ℕ)) 
 own_take t bt c cs bs z = go (read_certificate t true) refl
   where
     go : (r : Reading) → read_certificate t true ≡ r → OwnTakes t (c ∷ cs) (own t (c ∷ cs)).taken
-    go (Accepted x) e =
+    go (Ok x) e =
         record {
           c = x;
           read = e;
@@ -265,7 +261,7 @@ own_take t bt c cs bs z = go (read_certificate t true) refl
               rw q (constraints_take t bt _ _ c cs bs (ap (λ (y : Tally). y.refusal) (sym q) ∙ z));
           free = λ h. ap (λ (y : Tally). y.taken) (own_free (lent t) (map lent (c ∷ cs)) x e h);
         }
-    go (NotRead x) e = absurd (let q : bad_der ≡ 0 = ap (λ (y : Tally). y.refusal) (sym (own_unread (lent t) (map lent (c ∷ cs)) x e)) ∙ z in omega arith)
+    go (Err x) e = absurd (let q : bad_der ≡ 0 = ap (λ (y : Tally). y.refusal) (sym (own_unread (lent t) (map lent (c ∷ cs)) x e)) ∙ z in omega arith)
 
 issuers_take : (c : List ℕ) (cs : List (List ℕ)) → EachBytes (c ∷ cs) → (issuers (c ∷ cs)).refusal ≡ 0 → IssuersTake (c ∷ cs) (issuers (c ∷ cs)).taken
 unfolding issuers_in EachBytes

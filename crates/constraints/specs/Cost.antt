@@ -1,9 +1,8 @@
 -- How many comparisons the name constraints of a path take where nothing is refused: for each list of entries, the names of all certificates below, times the
 -- entries. This serves the account of a search, and so a certificate's fields are those that crate `cert` reads.
-use Rattle.std.specs.Prelude.{ℕ, ◌+◌, ◌*◌, ◌≡◌, List, [], ◌∷◌, ◌++◌, Bool, true, false, length}
+use Rattle.std.specs.Prelude.{ℕ, ◌+◌, ◌*◌, ◌≡◌, List, [], ◌∷◌, ◌++◌, Bool, true, false, length, Ok}
 use Rattle.der.specs.Places.{Bytes, part}
 use Rattle.cert.specs.declared.Certificate.{Certificate}
-use Rattle.cert.specs.declared.Reading.TheVariants.{Accepted}
 use Rattle.cert.specs.Model.{read_certificate}
 use Rattle.names.specs.General.{General}
 use Rattle.subtrees.specs.Rfc5280Names.{NameConstraints}
@@ -32,7 +31,7 @@ pub record Takes (content : List ℕ) (cs : List (List ℕ)) (n : ℕ) : Type 0 
 -- the constraints of the certificate t, if it has any, over the certificates cs
 pub record OwnTakes (t : List ℕ) (cs : List (List ℕ)) (n : ℕ) : Type 0 where
   pub c : Certificate
-  pub read : read_certificate t true ≡ Accepted c
+  pub read : read_certificate t true ≡ Ok c
   pub bound : c.known.name_constraints.known ≡ true → Takes (part t c.known.name_constraints.start c.known.name_constraints.end) cs n
   pub free : c.known.name_constraints.known ≡ false → n ≡ 0
 

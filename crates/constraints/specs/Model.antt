@@ -1,12 +1,10 @@
 -- What the code answers with no budget in mind, as functions of the bytes and of what is known of each certificate: the same tests in the same
 -- order. Each has an abbreviation for the case that what is known is what is read of the bytes.
-use Rattle.std.specs.Prelude.{ℕ, List, [], ◌∷◌, map, Bool, cond, length, eqb}
+use Rattle.std.specs.Prelude.{ℕ, List, [], ◌∷◌, map, Bool, cond, length, eqb, Ok, Err, Result}
 use Rattle.refusal.specs.Refusals.{bad_der}
 use Rattle.entries.specs.Tally.{Tally, tally, clean, after}
 use Rattle.subtrees.specs.declared.Subtrees.{Subtrees}
 use Rattle.subtrees.specs.Model.{subtrees_at, on_read, unread, certificate_as}
-use Rattle.subtrees.specs.declared.Lists.{Lists}
-use Rattle.subtrees.specs.declared.Lists.TheVariants.{Are, Refused as NoLists}
 use Rattle.subtrees.specs.Noted.{Noted, lent}
 
 -- ---- one issuer's constraints and the certificates below, the highest first
@@ -17,9 +15,9 @@ below_in s lists (c ∷ cs) = after (certificate_as s lists c) (below_in s lists
 abbrev pub below : List ℕ → Subtrees → List (List ℕ) → Tally
 below s lists cs = below_in s lists (map lent cs)
 
-unfoldable pub on_lists : {R : Type 0} → Lists → (ℕ → R) → (Subtrees → R) → R
-on_lists (Are lists) other k = k lists
-on_lists (NoLists e) other k = other e
+unfoldable pub on_lists : {R : Type 0} → Result Subtrees ℕ → (ℕ → R) → (Subtrees → R) → R
+on_lists (Ok lists) other k = k lists
+on_lists (Err e) other k = other e
 
 -- nothing may be left over after the lists
 abbrev pub left_over : ℕ → ℕ → Tally

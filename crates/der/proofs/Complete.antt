@@ -8,9 +8,7 @@ use lib.ListN.{length, get_or, length-append}
 use native.Mathlib.Omega.{arith}
 use native.Mathlib.Nat.{pow-suc}
 use borrow.Author.Tests.{lt-ltb, le-ltb}
-use Rattle.der.specs.declared.Length.TheVariants.{Is}
-use Rattle.der.specs.declared.Read.TheVariants.{Value}
-use Rattle.der.specs.Model.{high_tag, number_at, least, long_form, by_first, read_length, read_limited}
+use Rattle.der.specs.Model.{high_tag, number_at, least, long_form, by_first, read_length, read_limited, length_is, value_is}
 use Rattle.der.specs.X690.{big_endian, octets_of, length_bytes, encoding}
 use Rattle.der.specs.Places.{part}
 use Rattle.der.proofs.Laws.{tests, limited_value, lt_or_le}
@@ -59,12 +57,12 @@ octets_hold n a b =
     (lt_or_le n 256)
 
 -- ---- the two ways to an accepted length
-short_law : (s : List ℕ) (at to n : ℕ) → to ≤ length s → at < to → get_or s at 0 ≡ n → n < 128 → read_length s at to ≡ Is n (at + 1)
+short_law : (s : List ℕ) (at to n : ℕ) → to ≤ length s → at < to → get_or s at 0 ≡ n → n < 128 → read_length s at to ≡ length_is n (at + 1)
 unfolding read_length by_first
 short_law s at to n a b e h = search (tests, e)
 
 long_law : (s : List ℕ) (at to n k : ℕ) → to ≤ length s → at + k < to → get_or s at 0 ≡ 128 + k → 1 ≤ k → k ≤ 4 → number_at s (at + 1) k ≡ n → least k ≤ n
-    → read_length s at to ≡ Is n (at + 1 + k)
+    → read_length s at to ≡ length_is n (at + 1 + k)
 unfolding read_length by_first long_form
 long_law s at to n k a b e h i m l =
     let z : (128 + k) - 128 ≡ k = omega arith in
@@ -84,7 +82,7 @@ unfolding length_bytes
 bytes_long n h = simp (le-ltb n 128 h)
 
 pub length_complete : (s : List ℕ) (at to n : ℕ) → n < 2 ^ 32 → to ≤ length s → at + length (length_bytes n) ≤ to
-    → part s at (at + length (length_bytes n)) ≡ length_bytes n → read_length s at to ≡ Is n (at + length (length_bytes n))
+    → part s at (at + length (length_bytes n)) ≡ length_bytes n → read_length s at to ≡ length_is n (at + length (length_bytes n))
 length_complete s at to n h l r e =
     ⊎_elim
     (λ a.
@@ -106,7 +104,7 @@ length_complete s at to n h l r e =
 -- COMPLETE: the encoding of a tag and a content, with room for it before `to`, is accepted, with its places
 pub value_complete : (s : List ℕ) (from to limit tag : ℕ) (content : List ℕ) → high_tag tag ≡ false → length content < limit → length content < 2 ^ 32
     → to ≤ length s → from + length (encoding tag content) ≤ to → part s from (from + length (encoding tag content)) ≡ encoding tag content
-    → read_limited s from to limit ≡ Value tag (from + 1 + length (length_bytes (length content))) (from + length (encoding tag content))
+    → read_limited s from to limit ≡ value_is tag (from + 1 + length (length_bytes (length content))) (from + length (encoding tag content))
 unfolding encoding
 value_complete s from to limit tag content low short small l r e =
     let n = length content in

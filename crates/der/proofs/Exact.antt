@@ -9,11 +9,9 @@ use native.Mathlib.Omega.{arith}
 use native.Mathlib.Nat.{pow-le-pow_right}
 use lib.Dec.{lit<}
 use borrow.Author.Tests.{ne_eqb, eqb-false}
-use Rattle.der.specs.declared.Length.TheVariants.{Is}
-use Rattle.der.specs.declared.Read.TheVariants.{Value}
 use Rattle.der.specs.Places.{Bytes, part}
 use Rattle.der.specs.X690.{OneOctet, Minimal, length_bytes, encoding}
-use Rattle.der.specs.Model.{high_tag, read_length, read_limited}
+use Rattle.der.specs.Model.{high_tag, read_length, read_limited, length_is as the_length, value_is as the_value}
 use Rattle.der.proofs.Laws.{number_below}
 use Rattle.der.proofs.Parts.{part_length}
 use Rattle.der.proofs.Invert.{length_inv, length_next, value_inv}
@@ -29,7 +27,7 @@ pub record LengthThere (s : List ℕ) (at to n next : ℕ) : Type 0 where
   pub small : n < 2 ^ 32
   pub form : Minimal n (part s at next)
 
-length_small : (s : List ℕ) → Bytes s → (at to n next : ℕ) → read_length s at to ≡ Is n next → n < 2 ^ 32
+length_small : (s : List ℕ) → Bytes s → (at to n next : ℕ) → read_length s at to ≡ the_length n next → n < 2 ^ 32
 length_small s b at to n next e =
     ⊎_elim
     (λ h. omega (arith, h.small))
@@ -41,7 +39,7 @@ length_small s b at to n next e =
     omega arith)
     (length_inv s at to n next e).form
 
-pub length_is : (s : List ℕ) → Bytes s → (at to n next : ℕ) → read_length s at to ≡ Is n next → LengthThere s at to n next
+pub length_is : (s : List ℕ) → Bytes s → (at to n next : ℕ) → read_length s at to ≡ the_length n next → LengthThere s at to n next
 length_is s b at to n next e =
     let l = length_inv s at to n next e in
     let p = length_next s at to n next e in
@@ -54,7 +52,7 @@ length_is s b at to n next e =
       form = rw (length_sound s b at to n next e) (minimal n small);
     }
 
-pub is_length : (s : List ℕ) (at to n next : ℕ) → LengthThere s at to n next → read_length s at to ≡ Is n next
+pub is_length : (s : List ℕ) (at to n next : ℕ) → LengthThere s at to n next → read_length s at to ≡ the_length n next
 is_length s at to n next t =
     let e : part s at next ≡ length_bytes n = minimal_is n t.small (part s at next) t.form in
     let l : next ≡ at + length (length_bytes n) = omega (arith, t.inside, t.within, sym (part_length s at next (omega (arith, t.inside, t.within))) ∙ ap length e, t.ahead) in
@@ -79,7 +77,7 @@ pub no_high : (tag : ℕ) → high_tag tag ≡ false → OneOctet tag
 unfolding high_tag
 no_high tag h = eqb-false (tag % 32) 31 h
 
-pub value_is : (s : List ℕ) → Bytes s → (from to limit tag start end : ℕ) → read_limited s from to limit ≡ Value tag start end
+pub value_is : (s : List ℕ) → Bytes s → (from to limit tag start end : ℕ) → read_limited s from to limit ≡ the_value tag start end
     → ValueThere s from to limit tag start end
 value_is s b from to limit tag start end e =
     let v = value_inv s from to limit tag start end e in
@@ -96,7 +94,7 @@ value_is s b from to limit tag start end e =
       place = omega (arith, v.after, v.inside, v.within, v.ordered, sym (part_length s (from + 1) start (omega (arith, v.inside, v.within, v.ordered))) ∙ ap length q);
     }
 
-pub is_value : (s : List ℕ) (from to limit tag start end : ℕ) → ValueThere s from to limit tag start end → read_limited s from to limit ≡ Value tag start end
+pub is_value : (s : List ℕ) (from to limit tag start end : ℕ) → ValueThere s from to limit tag start end → read_limited s from to limit ≡ the_value tag start end
 unfolding encoding
 is_value s from to limit tag start end t =
     let c = part s start end in

@@ -5,15 +5,14 @@ use mathlib.Core.List.{List, ◌++◌}
 use mathlib.Core.Bool.{false}
 use lib.ListN.{length, length-append}
 use native.Mathlib.Omega.{arith}
-use Rattle.der.specs.declared.Read.TheVariants.{Value}
 use Rattle.der.specs.declared.Span.{Span}
-use Rattle.der.specs.declared.Got.TheVariants.{Content}
 use Rattle.der.specs.Places.{Bytes, part, LIMIT}
 use Rattle.der.specs.X690.{length_bytes, encoding}
-use Rattle.der.specs.Model.{high_tag, read_value, expect_at}
+use Rattle.der.specs.Model.{high_tag, read_value, expect_at, value_is}
 use Rattle.der.proofs.Laws.{expect_value}
 use Rattle.der.proofs.Parts.{part_length, part_front, part_tail}
 use Rattle.der.proofs.Theorems.{value_places, value_low, accepted_is_encoded, encoded_is_accepted}
+use Rattle.std.specs.Prelude.{Ok}
 
 -- the value with the tag stands at `from`, its content from start to end, all of it before `to`
 pub record Laid (s : List ℕ) (from to tag start end : ℕ) : Type 0 where
@@ -25,7 +24,7 @@ pub record Laid (s : List ℕ) (from to tag start end : ℕ) : Type 0 where
   pub low : high_tag tag ≡ false
   pub bytes : part s from end ≡ encoding tag (part s start end)
 
-pub read_laid : (s : List ℕ) → Bytes s → (from to tag start end : ℕ) → read_value s from to ≡ Value tag start end → Laid s from to tag start end
+pub read_laid : (s : List ℕ) → Bytes s → (from to tag start end : ℕ) → read_value s from to ≡ value_is tag start end → Laid s from to tag start end
 read_laid s b from to tag start end e =
     let p = value_places s from to tag start end e in
     let l = value_low s from to tag start end e in
@@ -39,14 +38,14 @@ read_laid s b from to tag start end e =
       bytes = accepted_is_encoded s b from to tag start end e;
     }
 
-pub expect_laid : (s : List ℕ) → Bytes s → (from to tag refusal : ℕ) (p : Span) → expect_at s from to tag refusal ≡ Content p
+pub expect_laid : (s : List ℕ) → Bytes s → (from to tag refusal : ℕ) (p : Span) → expect_at s from to tag refusal ≡ Ok p
     → Laid s from to tag p.start p.end
 expect_laid s b from to tag refusal p e = read_laid s b from to tag p.start p.end (expect_value s from to tag refusal p e)
 
 -- where a content is found again
 pub record Found (s : List ℕ) (from to tag : ℕ) (content : List ℕ) (end : ℕ) : Type 0 where
   pub start : ℕ
-  pub read : read_value s from to ≡ Value tag start end
+  pub read : read_value s from to ≡ value_is tag start end
   pub is : part s start end ≡ content
   pub ordered : start ≤ end
   pub size : end - start ≡ length content

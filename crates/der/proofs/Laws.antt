@@ -11,16 +11,19 @@ use native.Mathlib.Nat.{pow-suc}
 use lib.Pow.{pow_pos, pow_mono}
 use native.Mathlib.Numerals.{add-one}
 use borrow.Author.Tests.{eqb-true, ltb-true, ltb-false, lt-ltb, le-ltb, le-leb, lt-leb, eq-eqb, ne_eqb}
-use Rattle.der.specs.declared.Length.TheVariants.{Is, Bad}
-use Rattle.der.specs.declared.Read.{Read}
-use Rattle.der.specs.declared.Read.TheVariants.{Value, Refused}
 use Rattle.der.specs.declared.Span.{Span}
-use Rattle.der.specs.declared.Got.TheVariants.{Content, Refused as NoContent}
 use Rattle.der.specs.Places.{Bytes}
-use Rattle.der.specs.Model.{high_tag, number_at, least, long_form, by_first, read_length, with_length, read_limited, read_value, of_tag, expect_at}
+use Rattle.der.specs.Model.{high_tag, number_at, least, long_form, by_first, read_length, with_length, read_limited, read_value, of_tag, expect_at, length_is, value_is}
+use Rattle.std.specs.Prelude.{None, Ok, Err, Some, Option, Result, IsErr, IsErrAnd}
+use Rattle.std.proofs.lemmas.Result.{err_from_is_err_and}
+use Rattle.der.specs.declared.Value.{Value}
 
 -- each test's value from the fact, for `search tests` at a `return`
 pub ruleset tests = (lt-ltb, le-ltb, le-leb, lt-leb, eq-eqb, ne_eqb)
+
+-- the refusal that a `?` hands on
+pub handed_on : {T : Type 0} (r : Result T ℕ) {e : ℕ} → IsErr r × IsErrAnd r (λ x. x ≡ e) → r ≡ Err e
+handed_on r h = let p = err_from_is_err_and r h.1 in p.1 ∙ ap Err p.2
 
 -- an order is decided
 pub lt_or_le : (a b : ℕ) → (a < b) ⊎ (b ≤ a)
@@ -29,13 +32,6 @@ lt_or_le a b = go (ltb a b) refl
     go : (t : Bool) → ltb a b ≡ t → (a < b) ⊎ (b ≤ a)
     go true e = inl (ltb-true a b e)
     go false e = inr (ltb-false a b e)
-
--- a place of a part, and what is left of a part after one place more
-pub in_part : (a b i : ℕ) → i < b - a → a + i < b
-in_part a b i h = omega arith
-
-pub left_falls : (n i : ℕ) → i < n → n - (i + 1) < n - i
-left_falls n i h = omega arith
 
 -- k bytes are a number below 256 ^ k
 pub number_below : (s : List ℕ) → Bytes s → (at k : ℕ) → number_at s at k < 256 ^ k
@@ -66,20 +62,20 @@ module _ (s : List ℕ) (at : ℕ) where
 
 -- ---- a length of k bytes after its first
 module _ (s : List ℕ) (at to k : ℕ) where
-  pub long_none : to - at ≤ k → long_form s at to k ≡ Bad
+  pub long_none : to - at ≤ k → long_form s at to k ≡ None
   unfolding long_form
   long_none h = search tests
 
-  pub long_less : k < to - at → number_at s (at + 1) k < least k → long_form s at to k ≡ Bad
+  pub long_less : k < to - at → number_at s (at + 1) k < least k → long_form s at to k ≡ None
   unfolding long_form
   long_less h l = search tests
 
-  pub long_is : {n next : ℕ} → k < to - at → number_at s (at + 1) k ≡ n → least k ≤ n → next ≡ at + 1 + k → long_form s at to k ≡ Is n next
+  pub long_is : {n next : ℕ} → k < to - at → number_at s (at + 1) k ≡ n → least k ≤ n → next ≡ at + 1 + k → long_form s at to k ≡ length_is n next
   unfolding long_form
   long_is h e l m = search (tests, e, m)
 
 -- a first byte that announces no length
-pub first_none : (s : List ℕ) (at to b : ℕ) → 128 ≤ b → (b ≡ 129 → ⊥) → (b ≡ 130 → ⊥) → (b ≡ 131 → ⊥) → (b ≡ 132 → ⊥) → by_first s at to b ≡ Bad
+pub first_none : (s : List ℕ) (at to b : ℕ) → 128 ≤ b → (b ≡ 129 → ⊥) → (b ≡ 130 → ⊥) → (b ≡ 131 → ⊥) → (b ≡ 132 → ⊥) → by_first s at to b ≡ None
 unfolding by_first
 first_none s at to b h n₁ n₂ n₃ n₄ =
     ⊎_elim
@@ -106,41 +102,41 @@ one_shifted k h = let p = power_below k h in omega arith
 
 -- ---- the one way to an accepted value, and the ways to a refusal once a length was looked for
 module _ (s : List ℕ) (from to limit : ℕ) where
-  module _ (len next : ℕ) (a : to ≤ length s) (b : from < to) (h : high_tag (get_or s from 0) ≡ false) (l : read_length s (from + 1) to ≡ Is len next) where
-    pub limited_value : len < limit → len ≤ to - next → read_limited s from to limit ≡ Value (get_or s from 0) next (next + len)
+  module _ (len next : ℕ) (a : to ≤ length s) (b : from < to) (h : high_tag (get_or s from 0) ≡ false) (l : read_length s (from + 1) to ≡ length_is len next) where
+    pub limited_value : len < limit → len ≤ to - next → read_limited s from to limit ≡ value_is (get_or s from 0) next (next + len)
     unfolding read_limited with_length
     limited_value c d = search (tests, h, l)
 
-    pub limited_long : limit ≤ len → read_limited s from to limit ≡ Refused
+    pub limited_long : limit ≤ len → read_limited s from to limit ≡ None
     unfolding read_limited with_length
     limited_long c = search (tests, h, l)
 
-    pub limited_past : len < limit → to - next < len → read_limited s from to limit ≡ Refused
+    pub limited_past : len < limit → to - next < len → read_limited s from to limit ≡ None
     unfolding read_limited with_length
     limited_past c d = search (tests, h, l)
 
-  pub limited_bad : to ≤ length s → from < to → high_tag (get_or s from 0) ≡ false → read_length s (from + 1) to ≡ Bad → read_limited s from to limit ≡ Refused
+  pub limited_bad : to ≤ length s → from < to → high_tag (get_or s from 0) ≡ false → read_length s (from + 1) to ≡ None → read_limited s from to limit ≡ None
   unfolding read_limited with_length
   limited_bad a b h l = search (tests, h, l)
 
 -- ---- a content that was looked for
-of_tag_lem : (tag refusal : ℕ) (r : Read) (p : Span) → of_tag tag refusal r ≡ Content p → r ≡ Value tag p.start p.end
+of_tag_lem : (tag refusal : ℕ) (r : Option Value) (p : Span) → of_tag tag refusal r ≡ Ok p → r ≡ value_is tag p.start p.end
 unfolding of_tag
-of_tag_lem tag refusal (Value t a b) p e = go (eqb t tag) refl e
+of_tag_lem tag refusal (Some v) p e = go (eqb v.tag tag) refl e
   where
-    go : (x : Bool) → eqb t tag ≡ x → cond x (Content (record { start = a; end = b })) (NoContent refusal) ≡ Content p → Value t a b ≡ Value tag p.start p.end
+    go : (x : Bool) → eqb v.tag tag ≡ x → cond x (Ok (record { start = v.start; end = v.end })) (Err refusal) ≡ Ok p → value_is v.tag v.start v.end ≡ value_is tag p.start p.end
     go true h e' =
-        let k : t ≡ tag = eqb-true t tag h in
-        let q : ◌≡◌ {A = Span} (record { start = a; end = b }) p = cc in
+        let k : v.tag ≡ tag = eqb-true v.tag tag h in
+        let q : ◌≡◌ {A = Span} (record { start = v.start; end = v.end }) p = cc in
         rw (k, ← q)
     go false h e' = absurd (let z : ◌≡◌ {A = ℕ} 0 1 = cc in omega arith)
-of_tag_lem tag refusal Refused p e = absurd (let z : ◌≡◌ {A = ℕ} 0 1 = cc in omega arith)
+of_tag_lem tag refusal None p e = absurd (let z : ◌≡◌ {A = ℕ} 0 1 = cc in omega arith)
 
-pub expect_value : (s : List ℕ) (from to tag refusal : ℕ) (p : Span) → expect_at s from to tag refusal ≡ Content p → read_value s from to ≡ Value tag p.start p.end
+pub expect_value : (s : List ℕ) (from to tag refusal : ℕ) (p : Span) → expect_at s from to tag refusal ≡ Ok p → read_value s from to ≡ value_is tag p.start p.end
 unfolding expect_at
 expect_value s from to tag refusal p e = of_tag_lem tag refusal (read_value s from to) p e
 
-pub value_expect : (s : List ℕ) (from to tag refusal start end : ℕ) → read_value s from to ≡ Value tag start end
-    → expect_at s from to tag refusal ≡ Content (record { start = start; end = end })
+pub value_expect : (s : List ℕ) (from to tag refusal start end : ℕ) → read_value s from to ≡ value_is tag start end
+    → expect_at s from to tag refusal ≡ Ok (record { start = start; end = end })
 unfolding expect_at of_tag
 value_expect s from to tag refusal start end e = rw (e, eq-eqb tag tag refl)

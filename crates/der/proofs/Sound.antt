@@ -6,9 +6,7 @@ use mathlib.Core.Logic.{⊎_elim}
 use lib.ListN.{length, get_or}
 use native.Mathlib.Omega.{arith}
 use borrow.Author.Tests.{lt-ltb, le-ltb}
-use Rattle.der.specs.declared.Length.TheVariants.{Is}
-use Rattle.der.specs.declared.Read.TheVariants.{Value}
-use Rattle.der.specs.Model.{number_at, least, read_length, read_limited}
+use Rattle.der.specs.Model.{number_at, least, read_length, read_limited, length_is, value_is}
 use Rattle.der.specs.X690.{big_endian, octets_of, length_bytes, encoding}
 use Rattle.der.specs.Places.{part, Bytes}
 use Rattle.der.proofs.Laws.{number_below}
@@ -36,7 +34,7 @@ octets_is (suc (suc (suc (suc zero)))) n h j a b = (simp (le-ltb n 256 (omega ar
 octets_is (suc (suc (suc (suc (suc k))))) n h j a b = absurd (omega arith)
 
 -- an accepted length stands there in its one encoding
-pub length_sound : (s : List ℕ) → Bytes s → (at to len next : ℕ) → read_length s at to ≡ Is len next → part s at next ≡ length_bytes len
+pub length_sound : (s : List ℕ) → Bytes s → (at to len next : ℕ) → read_length s at to ≡ length_is len next → part s at next ≡ length_bytes len
 unfolding length_bytes
 length_sound s b at to len next e =
     let l = length_inv s at to len next e in
@@ -52,7 +50,7 @@ length_sound s b at to len next e =
     l.form
 
 -- SOUND: what is accepted from `from` to `end` is the encoding of the tag and the content, so there is no other for them
-pub value_sound : (s : List ℕ) → Bytes s → (from to limit tag start end : ℕ) → read_limited s from to limit ≡ Value tag start end
+pub value_sound : (s : List ℕ) → Bytes s → (from to limit tag start end : ℕ) → read_limited s from to limit ≡ value_is tag start end
     → part s from end ≡ encoding tag (part s start end)
 unfolding encoding
 value_sound s b from to limit tag start end e =

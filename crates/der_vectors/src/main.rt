@@ -1,11 +1,10 @@
 // Reads each line of hexadecimal digits in every way that crate `der` offers, from its first byte to its last, and prints what it finds.
 #![tactic(auto)]
 
-use der::{Got, Read};
-use parts::Count;
+use der::{Span, Value};
+use refusal::Refusal;
 use std::io;
 use std::io::{BufWriter, Write};
-use values::{Small, Truth};
 
 fn put(to: &mut impl Write, text: &[u8]) -> io::Result<()> {
     to.write_all(text)
@@ -15,39 +14,39 @@ fn number(to: &mut impl Write, n: usize) -> io::Result<()> {
     write!(to, " {n}")
 }
 
-fn refused(to: &mut impl Write, refusal: u16) -> io::Result<()> {
+fn refused(to: &mut impl Write, refusal: Refusal) -> io::Result<()> {
     match refusal {
-        refusal::BAD_DER => put(to, b" BadDer"),
-        refusal::TRAILING_BOOL => put(to, b" TrailingData(Bool)"),
-        refusal::TRAILING_BIT_STRING => put(to, b" TrailingData(BitString)"),
+        Refusal::BAD_DER => put(to, b" BadDer"),
+        Refusal::TRAILING_BOOL => put(to, b" TrailingData(Bool)"),
+        Refusal::TRAILING_BIT_STRING => put(to, b" TrailingData(BitString)"),
         _ => put(to, b" ?"),
     }
 }
 
-fn got(to: &mut impl Write, answer: Got) -> io::Result<()> {
+fn got(to: &mut impl Write, answer: Result<Span, Refusal>) -> io::Result<()> {
     match answer {
-        Got::Content(p) => {
+        Ok(p) => {
             number(to, p.start)?;
             number(to, p.end)
         }
-        Got::Refused(e) => refused(to, e),
+        Err(e) => refused(to, e),
     }
 }
 
 fn value(to: &mut impl Write, s: &[u8]) -> io::Result<()> {
     match der::read_value(s, 0, s.len()) {
-        Read::Value { tag, start, end } => {
+        Some(Value { tag, start, end }) => {
             number(to, tag as usize)?;
             number(to, start)?;
             number(to, end)
         }
-        Read::Refused => put(to, b" BadDer"),
+        None => put(to, b" BadDer"),
     }
 }
 
 fn boolean(to: &mut impl Write, s: &[u8]) -> io::Result<()> {
     match values::read_bool(s, 0, s.len()) {
-        Truth::Is { value, next } => {
+        Ok((value, next)) => {
             if value {
                 put(to, b" true")?;
             } else {
@@ -55,24 +54,24 @@ fn boolean(to: &mut impl Write, s: &[u8]) -> io::Result<()> {
             }
             number(to, next)
         }
-        Truth::Refused(e) => refused(to, e),
+        Err(e) => refused(to, e),
     }
 }
 
 fn one_byte(to: &mut impl Write, s: &[u8]) -> io::Result<()> {
     match values::read_small(s, 0, s.len()) {
-        Small::Number { value, next } => {
+        Ok((value, next)) => {
             number(to, value as usize)?;
             number(to, next)
         }
-        Small::Refused(e) => refused(to, e),
+        Err(e) => refused(to, e),
     }
 }
 
 // The flags of a content, by the numbers of those among the first sixteen that are set.
 fn flags(to: &mut impl Write, s: &[u8]) -> io::Result<()> {
     match bits::flags_in(s, 0, s.len()) {
-        Got::Content(p) => {
+        Ok(p) => {
             for k in 0..16 {
                 if bits::flag_at(s, p.start, p.end, k) {
                     number(to, k)?;
@@ -80,14 +79,14 @@ fn flags(to: &mut impl Write, s: &[u8]) -> io::Result<()> {
             }
             Ok(())
         }
-        Got::Refused(e) => refused(to, e),
+        Err(e) => refused(to, e),
     }
 }
 
 fn row(to: &mut impl Write, s: &[u8]) -> io::Result<()> {
     match parts::count_values(s, 0, s.len()) {
-        Count::Values(n) => number(to, n),
-        Count::Broken => put(to, b" BadDer"),
+        Some(n) => number(to, n),
+        None => put(to, b" BadDer"),
     }
 }
 
@@ -111,12 +110,9 @@ fn show(to: &mut impl Write, s: &[u8]) -> io::Result<()> {
 }
 
 fn show_all(to: &mut impl Write, text: &[u8], out: &mut [u8]) -> io::Result<()> {
-    let mut at: usize = 0;
-    while at < text.len() {
-        let end = hexlines::line_end(text, at);
-        let count = hexlines::padded(text, at, end, out);
+    for line in text.split_inclusive(|b| *b == b'\n') {
+        let count = hexlines::padded(line, 0, hexlines::line_end(line, 0), out);
         show(to, &out[..count])?;
-        at = end + 1;
     }
     Ok(())
 }

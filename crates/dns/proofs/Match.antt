@@ -10,8 +10,6 @@ use native.Mathlib.Omega.{arith}
 use borrow.Author.Tests.{eqb-true, eq-eqb}
 use Rattle.refusal.specs.Refusals.{malformed_dns_identifier, malformed_name_constraint}
 use Rattle.der.proofs.Invert.{peel, either}
-use Rattle.dns.specs.declared.Answer.{Answer}
-use Rattle.dns.specs.declared.Answer.TheVariants.{Yes, No, Refused}
 use Rattle.texts.specs.Bytes.{dot}
 use Rattle.labels.specs.Names.{Labels, capital, digit, letter, label_byte, every, last_of, none, labels, good_label, host_name, relative, starred, wanted_name, presented_name, entry_name}
 use Rattle.dns.specs.Names.{small, lowered, Same, Starred, StandsFor, Within, Below, InSubtree, AllIn, SomeIn}
@@ -19,15 +17,15 @@ use Rattle.dns.specs.Stricter.{Stricter}
 use Rattle.dns.specs.Answers.{Decides}
 use Rattle.texts.specs.Model.{begins, from_dot, relative_text}
 use Rattle.labels.specs.Model.{valid_presented, valid_wanted}
-use Rattle.dns.specs.Model.{same_text, stands_for, in_subtree, meets_subtree, yes_if, match_wanted, match_permitted, match_excluded}
+use Rattle.dns.specs.Model.{same_text, stands_for, in_subtree, meets_subtree, match_wanted, match_permitted, match_excluded}
 use Rattle.dns.proofs.Laws.{yes_no, yes_refused, no_refused}
 use Rattle.labels.proofs.Labels.{labels_nil, true_false, cut, labels_dot, cut_more}
 use Rattle.dns.proofs.Texts.{both, small_keeps, same_labels, labels_same, Dots, one, two, dots}
 use Rattle.labels.proofs.Valid.{wanted_valid, presented_valid, entry_valid, labels_relative, star_dot, star_bad, no_star}
 use Rattle.dns.proofs.Subtree.{subtree_nil, subtree_dot, subtree_other, subtree_sound, subtree_complete}
+use Rattle.std.specs.Prelude.{Ok, Err, Result}
 
-decides : (b : Bool) (P : Type 0) → (b ≡ true → P) → (P → b ≡ true) → Decides (yes_if b) P
-unfolding yes_if
+decides : (b : Bool) (P : Type 0) → (b ≡ true → P) → (P → b ≡ true) → Decides (Ok b) P
 decides true P f g = inl (refl, f refl)
 decides false P f g = inr (refl, λ h. true_false (g h) refl)
 
@@ -152,7 +150,7 @@ stands_complete p r (plain s b) (inr x) = absurd (true_false x.is_starred s)
 stands_complete p r (wild ys q) (inl x) = absurd (true_false (wild_starred (labels ys)) (rw (q, wild_labels ys) at x.0))
 stands_complete p r (wild ys q) (inr x) = rw q (wild_stands ys r ∙ wild_complete ys r (rw (q, wild_labels ys) at x))
 
-valid_wanted_lem : (p q : List ℕ) → presented_name p ≡ true → wanted_name q ≡ true → match_wanted p q ≡ yes_if (stands_for p (relative_text q))
+valid_wanted_lem : (p q : List ℕ) → presented_name p ≡ true → wanted_name q ≡ true → match_wanted p q ≡ Ok (stands_for p (relative_text q))
 unfolding match_wanted
 valid_wanted_lem p q a b = rw (presented_valid p, a, wanted_valid q, b)
 
@@ -268,7 +266,7 @@ permitted_complete : (p q : List ℕ) → Shown p → Entry q → AllIn (labels 
 permitted_complete p q (plain s b) t h = h (labels p) (inl (s, refl))
 permitted_complete p q (wild ys e) t h = rw (e, wild_labels ys) (all_swap q t (labels ys) (λ n x. h n (inr (rw (e, wild_labels ys) x))))
 
-valid_permitted : (p q : List ℕ) → presented_name p ≡ true → entry_name q ≡ true → match_permitted p q ≡ yes_if (in_subtree p q)
+valid_permitted : (p q : List ℕ) → presented_name p ≡ true → entry_name q ≡ true → match_permitted p q ≡ Ok (in_subtree p q)
 unfolding match_permitted
 valid_permitted p q a b = rw (presented_valid p, a, entry_valid q, b)
 
@@ -387,7 +385,7 @@ excluded_complete p q (wild ys k) v (inl x) = rw k (by_name x.stands)
     by_name (inr y) = some_wild ys q (entry q v) x.name (rw (k, wild_labels ys) at y) x.inside
 excluded_complete p q (wild ys k) v (inr x) = rw k (stricter_wild ys q (rw (k, wild_labels ys) at x))
 
-valid_excluded : (p q : List ℕ) → presented_name p ≡ true → entry_name q ≡ true → match_excluded p q ≡ yes_if (meets_subtree p q)
+valid_excluded : (p q : List ℕ) → presented_name p ≡ true → entry_name q ≡ true → match_excluded p q ≡ Ok (meets_subtree p q)
 unfolding match_excluded
 valid_excluded p q a b = rw (presented_valid p, a, entry_valid q, b)
 
@@ -398,28 +396,28 @@ excluded_decides p q a b =
     (decides (meets_subtree p q) (SomeIn (labels p) (labels q) ⊎ Stricter (labels p) (labels q)) (excluded_sound p q (shown p a) b) (excluded_complete p q (shown p a) b))
 
 -- ---- what is malformed is refused, the presented name first
-pub wanted_refused : (p q : List ℕ) → (presented_name p && wanted_name q) ≡ false → match_wanted p q ≡ Refused malformed_dns_identifier
+pub wanted_refused : (p q : List ℕ) → (presented_name p && wanted_name q) ≡ false → match_wanted p q ≡ Err malformed_dns_identifier
 unfolding match_wanted
 wanted_refused p q e = go (presented_name p) (wanted_name q) (presented_valid p) (wanted_valid q) e
   where
-    go : (a b : Bool) → valid_presented p ≡ a → valid_wanted q ≡ b → (a && b) ≡ false → match_wanted p q ≡ Refused malformed_dns_identifier
+    go : (a b : Bool) → valid_presented p ≡ a → valid_wanted q ≡ b → (a && b) ≡ false → match_wanted p q ≡ Err malformed_dns_identifier
     go true true h k f = absurd (true_false refl f)
     go true false h k f = rw (h, k)
     go false b h k f = rw h
 
 pub presented_refused : (p q : List ℕ) → presented_name p ≡ false
-    → (match_permitted p q ≡ Refused malformed_dns_identifier) × (match_excluded p q ≡ Refused malformed_dns_identifier)
+    → (match_permitted p q ≡ Err malformed_dns_identifier) × (match_excluded p q ≡ Err malformed_dns_identifier)
 unfolding match_permitted match_excluded
 presented_refused p q a = (rw (presented_valid p, a), rw (presented_valid p, a))
 
 pub entry_refused : (p q : List ℕ) → presented_name p ≡ true → entry_name q ≡ false
-    → (match_permitted p q ≡ Refused malformed_name_constraint) × (match_excluded p q ≡ Refused malformed_name_constraint)
+    → (match_permitted p q ≡ Err malformed_name_constraint) × (match_excluded p q ≡ Err malformed_name_constraint)
 unfolding match_permitted match_excluded
 entry_refused p q a b = (rw (presented_valid p, a, entry_valid q, b), rw (presented_valid p, a, entry_valid q, b))
 
 -- an answer was given, so both were names
-both_valid : (p q : List ℕ) (f : List ℕ → List ℕ → Answer) (x : Answer) → ((e : ℕ) → x ≡ Refused e → ⊥)
-    → (presented_name p ≡ false → f p q ≡ Refused malformed_dns_identifier) → (presented_name p ≡ true → entry_name q ≡ false → f p q ≡ Refused malformed_name_constraint)
+both_valid : (p q : List ℕ) (f : List ℕ → List ℕ → Result Bool ℕ) (x : Result Bool ℕ) → ((e : ℕ) → x ≡ Err e → ⊥)
+    → (presented_name p ≡ false → f p q ≡ Err malformed_dns_identifier) → (presented_name p ≡ true → entry_name q ≡ false → f p q ≡ Err malformed_name_constraint)
     → f p q ≡ x → (presented_name p ≡ true) × (entry_name q ≡ true)
 both_valid p q f x n a b e = go (presented_name p) (entry_name q) refl refl
   where
@@ -429,14 +427,14 @@ both_valid p q f x n a b e = go (presented_name p) (entry_name q) refl refl
     go false t h k = absurd (n malformed_dns_identifier (sym e ∙ a h))
 
 -- PERMITTED says yes only if all that the presented name stands for is in the subtree, and EXCLUDED no only if nothing is
-pub permitted_all : (p q : List ℕ) → match_permitted p q ≡ Yes → AllIn (labels p) (labels q)
+pub permitted_all : (p q : List ℕ) → match_permitted p q ≡ Ok true → AllIn (labels p) (labels q)
 permitted_all p q e =
-    let v = both_valid p q match_permitted Yes (λ x. yes_refused) (λ a. (presented_refused p q a).0) (λ a b. (entry_refused p q a b).0) e in
+    let v = both_valid p q match_permitted (Ok true) (λ x. yes_refused) (λ a. (presented_refused p q a).0) (λ a b. (entry_refused p q a b).0) e in
     ⊎_elim (λ d. d.1) (λ d. absurd (yes_no (sym e ∙ d.0))) (permitted_decides p q v.0 v.1)
 
-pub excluded_none : (p q : List ℕ) → match_excluded p q ≡ No → (n : Labels) → StandsFor (labels p) n → InSubtree (labels q) n → ⊥
+pub excluded_none : (p q : List ℕ) → match_excluded p q ≡ Ok false → (n : Labels) → StandsFor (labels p) n → InSubtree (labels q) n → ⊥
 excluded_none p q e n s i =
-    let v = both_valid p q match_excluded No (λ x. no_refused) (λ a. (presented_refused p q a).1) (λ a b. (entry_refused p q a b).1) e in
+    let v = both_valid p q match_excluded (Ok false) (λ x. no_refused) (λ a. (presented_refused p q a).1) (λ a b. (entry_refused p q a b).1) e in
     ⊎_elim (λ d. yes_no (sym d.0 ∙ e)) (λ d. d.1 (inl (record { name = n; stands = s; inside = i }))) (excluded_decides p q v.0 v.1)
 
 -- ---- the one place is stricter: nothing that the presented name stands for is in the subtree

@@ -6,6 +6,8 @@ use mathlib.Core.Bool.{Bool, true, false, cond, ◌&&◌}
 use lib.Dec.{eqb, leb}
 use native.Mathlib.Omega.{arith}
 use borrow.Author.Tests.{eq-eqb, ne_eqb, eqb-true, leb-true}
+use Rattle.std.specs.Char.{to_ascii_lowercase}
+use Rattle.der.proofs.Laws.{tests}
 use Rattle.texts.specs.Bytes.{dot}
 use Rattle.labels.specs.Names.{Labels, capital, longer, labels}
 use Rattle.dns.specs.Names.{small, lowered, Same}
@@ -86,6 +88,15 @@ small_keeps b k l = go (capital b) refl
         let c = capital_is b e in
         rw (small_capital b e, ne_eqb (b + 32) k (omega arith), ne_eqb b k (omega arith))
     go false e = rw (small_other b e)
+
+-- a letter as the library makes it small
+lower_is : (b : ℕ) → to_ascii_lowercase b ≡ small b
+unfolding small capital
+lower_is b = grind (arith, tests)
+
+pub lower_small : (h : List ℕ) → map to_ascii_lowercase h ≡ map small h
+lower_small [] = refl
+lower_small (b ∷ bs) = let e = lower_is b in let r = lower_small bs in cc
 
 lowered_longer : (b : ℕ) (h : List ℕ) → lowered (longer b (labels h)) ≡ longer (small b) (lowered (labels h))
 unfolding lowered longer

@@ -1,11 +1,9 @@
 -- How a theorem says what a comparison answers.
-use Rattle.std.specs.Prelude.{◌≡◌, ◌⊎◌}
-use Rattle.dns.specs.declared.Answer.{Answer}
-use Rattle.dns.specs.declared.Answer.TheVariants.{Yes, No}
+use Rattle.std.specs.Prelude.{◌≡◌, ◌⊎◌, Ok, true, false, Result, Bool, ℕ}
 
 -- the answer is x if P, and no if not
-abbrev pub Answers : Answer → Answer → Type 0 → Type 0
-Answers x a P = ((a ≡ x) × P) ⊎ ((a ≡ No) × (P → ⊥))
+abbrev pub Answers : Result Bool ℕ → Result Bool ℕ → Type 0 → Type 0
+Answers x a P = ((a ≡ x) × P) ⊎ ((a ≡ Ok false) × (P → ⊥))
 
-abbrev pub Decides : Answer → Type 0 → Type 0
-Decides a P = Answers Yes a P
+abbrev pub Decides : Result Bool ℕ → Type 0 → Type 0
+Decides a P = Answers (Ok true) a P

@@ -1,7 +1,5 @@
 -- What the code answers, as functions of the bytes: the same tests in the same order.
-use Rattle.std.specs.Prelude.{ℕ, ◌-◌, List, [], ◌∷◌, Bool, true, false, cond, length, get_or, drop, leb, eqb}
-use Rattle.dns.specs.declared.Answer.{Answer}
-use Rattle.dns.specs.declared.Answer.TheVariants.{Yes, No, Refused}
+use Rattle.std.specs.Prelude.{ℕ, ◌-◌, List, [], ◌∷◌, Bool, true, false, cond, length, get_or, drop, leb, eqb, Ok, Err, Result}
 use Rattle.texts.specs.Model.{begins, relative_text, from_dot}
 use Rattle.labels.specs.Model.{valid_presented, valid_wanted, valid_entry}
 use Rattle.refusal.specs.Refusals.{malformed_dns_identifier, malformed_name_constraint}
@@ -40,23 +38,20 @@ meets_subtree p q =
     true
     (cond (begins p star) (same_text (drop 1 p) (from_dot (drop 1 q))) false)
 
-unfoldable pub yes_if : Bool → Answer
-yes_if b = cond b Yes No
-
-unfoldable pub match_wanted : List ℕ → List ℕ → Answer
+unfoldable pub match_wanted : List ℕ → List ℕ → Result Bool ℕ
 match_wanted p q =
     cond (valid_presented p)
-    (cond (valid_wanted q) (yes_if (stands_for p (relative_text q))) (Refused malformed_dns_identifier))
-    (Refused malformed_dns_identifier)
+    (cond (valid_wanted q) (Ok (stands_for p (relative_text q))) (Err malformed_dns_identifier))
+    (Err malformed_dns_identifier)
 
-unfoldable pub match_permitted : List ℕ → List ℕ → Answer
+unfoldable pub match_permitted : List ℕ → List ℕ → Result Bool ℕ
 match_permitted p q =
     cond (valid_presented p)
-    (cond (valid_entry q) (yes_if (in_subtree p q)) (Refused malformed_name_constraint))
-    (Refused malformed_dns_identifier)
+    (cond (valid_entry q) (Ok (in_subtree p q)) (Err malformed_name_constraint))
+    (Err malformed_dns_identifier)
 
-unfoldable pub match_excluded : List ℕ → List ℕ → Answer
+unfoldable pub match_excluded : List ℕ → List ℕ → Result Bool ℕ
 match_excluded p q =
     cond (valid_presented p)
-    (cond (valid_entry q) (yes_if (meets_subtree p q)) (Refused malformed_name_constraint))
-    (Refused malformed_dns_identifier)
+    (cond (valid_entry q) (Ok (meets_subtree p q)) (Err malformed_name_constraint))
+    (Err malformed_dns_identifier)

@@ -2,45 +2,15 @@
 #![tactic(auto)]
 
 ghost use Rattle.std.specs.Prelude.{◌≡◌};
-ghost use Rattle.dns.specs.Names.{small};
-ghost use Rattle.dns.specs.Model.{same_text, stands_for, in_subtree, meets_subtree, yes_if, match_wanted, match_permitted, match_excluded};
+ghost use Rattle.dns.specs.Model.{same_text, stands_for, in_subtree, meets_subtree, match_wanted, match_permitted, match_excluded};
 
-// What a comparison answers.
-#[derive(Clone, Copy)]
-pub enum Answer {
-    Yes,
-    No,
-    Refused(u16),
-}
-
-// An ASCII letter as a small one.
-fn lower(b: u8) -> u8
-    ensures { result ≡ small b }
-{
-    if b < b'A' {
-        return b;
-    }
-    if b'Z' < b {
-        return b;
-    }
-    b + 32
-}
+use refusal::Refusal;
 
 // Whether two texts are the same but for the case of ASCII letters.
 fn same_text(x: &[u8], y: &[u8]) -> bool
     ensures { result ≡ same_text x.now y.now }
 {
-    if x.len() != y.len() {
-        return false;
-    }
-    let mut i: usize = 0;
-    while i < x.len() {
-        if lower(x[i]) != lower(y[i]) {
-            return false;
-        }
-        i += 1;
-    }
-    true
+    x.eq_ignore_ascii_case(y)
 }
 
 // Whether the presented p stands for the name q, which does not end in a dot.
@@ -57,21 +27,14 @@ fn stands_for(p: &[u8], q: &[u8]) -> bool
 fn in_subtree(p: &[u8], q: &[u8]) -> bool
     ensures { result ≡ in_subtree p.now q.now }
 {
-    if q.len() == 0 {
+    if q.is_empty() {
         return true;
     }
     if p.len() <= q.len() {
         return same_text(p, q);
     }
     let at = p.len() - q.len();
-    let tail = &p[at..];
-    if texts::begins(q, b'.') {
-        return same_text(tail, q);
-    }
-    if p[at - 1] == b'.' {
-        return same_text(tail, q);
-    }
-    false
+    (texts::begins(q, b'.') || p[at - 1] == b'.') && same_text(&p[at..], q)
 }
 
 // Whether p, its star as any label, can be in the subtree of the entry q. The first dot of q itself is passed over,
@@ -79,62 +42,42 @@ fn in_subtree(p: &[u8], q: &[u8]) -> bool
 fn meets_subtree(p: &[u8], q: &[u8]) -> bool
     ensures { result ≡ meets_subtree p.now q.now }
 {
-    if in_subtree(p, q) {
-        return true;
-    }
-    if texts::begins(p, b'*') {
-        return same_text(texts::rest(p), texts::from_dot(texts::rest(q)));
-    }
-    false
-}
-
-fn yes_if(b: bool) -> Answer
-    ensures { result ≡ yes_if b }
-{
-    if b { Answer::Yes } else { Answer::No }
+    in_subtree(p, q)
+        || texts::begins(p, b'*') && same_text(texts::rest(p), texts::from_dot(texts::rest(q)))
 }
 
 // Whether the presented name p is good for the wanted name q.
-pub fn match_wanted(p: &[u8], q: &[u8]) -> Answer
+pub fn match_wanted(p: &[u8], q: &[u8]) -> Result<bool, Refusal>
     ensures { result ≡ match_wanted p.now q.now }
 {
-    if labels::valid_presented(p) {
-        if labels::valid_wanted(q) {
-            yes_if(stands_for(p, texts::relative(q)))
-        } else {
-            Answer::Refused(refusal::MALFORMED_DNS_IDENTIFIER)
-        }
-    } else {
-        Answer::Refused(refusal::MALFORMED_DNS_IDENTIFIER)
+    if !labels::valid_presented(p) || !labels::valid_wanted(q) {
+        return Err(Refusal::MALFORMED_DNS_IDENTIFIER);
     }
+    Ok(stands_for(p, texts::relative(q)))
 }
 
 // Whether the presented name p, all that it stands for, is in the subtree of the permitted entry q.
-pub fn match_permitted(p: &[u8], q: &[u8]) -> Answer
+pub fn match_permitted(p: &[u8], q: &[u8]) -> Result<bool, Refusal>
     ensures { result ≡ match_permitted p.now q.now }
 {
-    if labels::valid_presented(p) {
-        if labels::valid_entry(q) {
-            yes_if(in_subtree(p, q))
-        } else {
-            Answer::Refused(refusal::MALFORMED_NAME_CONSTRAINT)
-        }
-    } else {
-        Answer::Refused(refusal::MALFORMED_DNS_IDENTIFIER)
+    if !labels::valid_presented(p) {
+        return Err(Refusal::MALFORMED_DNS_IDENTIFIER);
     }
+    if !labels::valid_entry(q) {
+        return Err(Refusal::MALFORMED_NAME_CONSTRAINT);
+    }
+    Ok(in_subtree(p, q))
 }
 
 // Whether the presented name p, something that it stands for, is in the subtree of the excluded entry q.
-pub fn match_excluded(p: &[u8], q: &[u8]) -> Answer
+pub fn match_excluded(p: &[u8], q: &[u8]) -> Result<bool, Refusal>
     ensures { result ≡ match_excluded p.now q.now }
 {
-    if labels::valid_presented(p) {
-        if labels::valid_entry(q) {
-            yes_if(meets_subtree(p, q))
-        } else {
-            Answer::Refused(refusal::MALFORMED_NAME_CONSTRAINT)
-        }
-    } else {
-        Answer::Refused(refusal::MALFORMED_DNS_IDENTIFIER)
+    if !labels::valid_presented(p) {
+        return Err(Refusal::MALFORMED_DNS_IDENTIFIER);
     }
+    if !labels::valid_entry(q) {
+        return Err(Refusal::MALFORMED_NAME_CONSTRAINT);
+    }
+    Ok(meets_subtree(p, q))
 }

@@ -1,3 +1,4 @@
 pub mod Spending
+pub mod Leaving
 pub mod Laws
 pub mod Refusals

@@ -9,8 +9,7 @@ use borrow.Author.Tests.{lt-ltb, le-ltb, le-leb, lt-leb, eq-eqb, ne_eqb}
 use Rattle.refusal.specs.Refusals.{maximum_name_constraint_comparisons_exceeded}
 use Rattle.der.specs.Loop.{run, walk}
 use Rattle.der.proofs.Laws.{lt_or_le}
-use Rattle.entries.specs.declared.Spent.{Spent}
-use Rattle.entries.specs.Tally.{Tally, tally, after, spend}
+use Rattle.entries.specs.Tally.{Spent, Tally, tally, after, spend}
 
 pub enough : (left : ℕ) (t : Tally) → t.taken ≤ left → spend left t ≡ record { left = left - t.taken; refusal = t.refusal }
 unfolding spend

@@ -7,7 +7,6 @@ use lib.ListN.{length}
 use native.Mathlib.Omega.{arith}
 use Rattle.refusal.specs.Refusals.{bad_der, trailing_extension, trailing_certificate_extensions}
 use Rattle.der.specs.declared.Span.{Span}
-use Rattle.der.specs.declared.Got.TheVariants.{Content}
 use Rattle.der.specs.Places.{part, LIMIT}
 use Rattle.der.specs.X690.{encoding}
 use Rattle.der.specs.Model.{expect_at}
@@ -16,10 +15,7 @@ use Rattle.parts.proofs.Equal.{same_refl}
 use Rattle.der.proofs.Parts.{part_length}
 use Rattle.der.proofs.Loop.{Going, turn, finish, start}
 use Rattle.extensions.specs.declared.Known.{Known}
-use Rattle.extensions.specs.declared.Kept.{Kept}
-use Rattle.extensions.specs.declared.Kept.TheVariants.{All}
 use Rattle.extensions.specs.declared.Extension.{Extension as Read}
-use Rattle.extensions.specs.declared.Parsed.TheVariants.{Is}
 use Rattle.extensions.specs.Model.{Next, extension_in, content_of, slot_of, set_slot, remembered, taken, go_on, all_kept, none_known, gathered, extensions_at}
 use Rattle.extensions.specs.Accepted.{Taken, usage, known, other, Each, more, KnownNumber, key_usage, occurs}
 use Rattle.extensions.specs.Rfc5280.{Extension, id_ce, is_number, is_critical, sequence, object_identifier, octet_string, criticality, extension_content, extension, extension_list, Extensions, missing, present, listed, explicit, extensions}
@@ -31,6 +27,7 @@ use Rattle.extensions.proofs.Small.{critical_found}
 use Rattle.extensions.proofs.Numbers.{number_some, kind_is, none_kind}
 use Rattle.extensions.proofs.Slots.{Holds, alone, kept_usage, kept_sequence, filled, after_all, used, one, set_filled, none_filled, after_more, after_none, used_filled, used_none, after_first}
 use borrow.Author.Tests.{eq-eqb}
+use Rattle.std.specs.Prelude.{Ok, Result}
 
 -- ---- one extension
 -- the three values of an extension that is encoded at `at`
@@ -43,8 +40,8 @@ placed at x =
     }
 
 record Parts (s : List ℕ) (at to : ℕ) (x : Extension) (rest : List ℕ) : Type 0 where
-  pub outer : expect_at s at to 48 trailing_extension ≡ Content (place_of at (extension_content x))
-  pub inner : extension_in s (place_of at (extension_content x)).start (place_of at (extension_content x)).end ≡ Is (placed at x)
+  pub outer : expect_at s at to 48 trailing_extension ≡ Ok (place_of at (extension_content x))
+  pub inner : extension_in s (place_of at (extension_content x)).start (place_of at (extension_content x)).end ≡ Ok (placed at x)
   pub identifier : part s (placed at x).identifier.start (placed at x).identifier.end ≡ x.identifier
   pub identifier_ordered : (placed at x).identifier.start ≤ (placed at x).identifier.end
   pub identifier_inside : (placed at x).identifier.end ≤ to
@@ -122,11 +119,11 @@ slot_free k n x e h = go (slot_of k n).known (rw (number_is n x e) at h)
 -- an extension that is taken leaves slots of which `filled` says what they hold
 record Remembered (s : List ℕ) (at : ℕ) (x : Extension) (k : Known) (strict : Bool) : Type 0 where
   pub now : Known
-  pub found : remembered s (placed at x) k strict ≡ All now
+  pub found : remembered s (placed at x) k strict ≡ Ok now
   pub set : Holds now (filled k at x)
 
 kept_known : (s : List ℕ) (at to : ℕ) (x : Extension) (rest : List ℕ) (k : Known) (strict : Bool) (n : ℕ) (p : Span) → to ≤ length s → Parts s at to x rest → KnownNumber n → x.identifier ≡ id_ce n
-    → used k n + one n x ≤ 1 → content_of s n (value_of at x) ≡ Content p → there p.start p.end ≡ kept_of n at x → Remembered s at x k strict
+    → used k n + one n x ≤ 1 → content_of s n (value_of at x) ≡ Ok p → there p.start p.end ≡ kept_of n at x → Remembered s at x k strict
 kept_known s at to x rest k strict n p l parts number is room found slot =
     let i = (placed at x).identifier in
     let inside = parts.identifier_inside in
@@ -190,16 +187,16 @@ step_found s at to x rest k strict h l small e allowed room =
     }
 
 -- ---- a list
-pub record ListFound (k : Known) (at : ℕ) (xs : List Extension) (r : Kept) : Type 0 where
+pub record ListFound (k : Known) (at : ℕ) (xs : List Extension) (r : Result Known ℕ) : Type 0 where
   pub now : Known
-  pub found : r ≡ All now
+  pub found : r ≡ Ok now
   pub set : Holds now (after_all k at xs)
 
 module _ (s : List ℕ) (to : ℕ) (strict : Bool) (l : to ≤ length s) where
-  abbrev steps : ℕ → Known → (ℕ → Known → Kept) → Kept
+  abbrev steps : ℕ → Known → (ℕ → Known → Result Known ℕ) → Result Known ℕ
   steps at k = go_on (taken s at to k strict)
 
-  pub list_found : (xs : List Extension) (at : ℕ) (k : Known) {r : Kept} → at ≤ to → to - at < LIMIT → part s at to ≡ extension_list xs → Each strict xs
+  pub list_found : (xs : List Extension) (at : ℕ) (k : Known) {r : Result Known ℕ} → at ≤ to → to - at < LIMIT → part s at to ≡ extension_list xs → Each strict xs
       → ((n : ℕ) → KnownNumber n → used k n + occurs n xs ≤ 1) → Going to all_kept steps r at k → ListFound k at xs r
   unfolding all_kept extension_list occurs one
   list_found [] at k h small e each room g =
@@ -220,19 +217,19 @@ module _ (s : List ℕ) (to : ℕ) (strict : Bool) (l : to ≤ length s) where
       }
 
 -- ---- all of them
-extensions_missing : (s : List ℕ) (from to : ℕ) (strict : Bool) → from ≡ to → extensions_at s from to strict ≡ All (slots 0 [])
+extensions_missing : (s : List ℕ) (from to : ℕ) (strict : Bool) → from ≡ to → extensions_at s from to strict ≡ Ok (slots 0 [])
 unfolding extensions_at none_known slots slot_for
 extensions_missing s from to strict h = rw (eq-eqb from to h)
 
 list_whole : (s : List ℕ) (from to : ℕ) (strict : Bool) (xs : List Extension) → from ≤ to → to ≤ length s → to - from < LIMIT → part s from to ≡ extension_list xs → Each strict xs
-    → ((n : ℕ) → KnownNumber n → occurs n xs ≤ 1) → gathered s from to strict ≡ All (slots from xs)
+    → ((n : ℕ) → KnownNumber n → occurs n xs ≤ 1) → gathered s from to strict ≡ Ok (slots from xs)
 unfolding gathered
 list_whole s from to strict xs h l small e each once =
     let r = list_found s to strict l xs from none_known h small e each (λ n m. omega (arith, once n m, used_none n m)) (start to all_kept (λ at x. go_on (taken s at to x strict)) from none_known) in
-    r.found ∙ ap All (after_first r.now from xs r.set)
+    r.found ∙ ap Ok (after_first r.now from xs r.set)
 
 pub extensions_found : (s : List ℕ) (from to : ℕ) (strict : Bool) (es : Extensions) → from ≤ to → to ≤ length s → to - from < LIMIT → part s from to ≡ extensions es → Each strict (listed es)
-    → ((n : ℕ) → KnownNumber n → occurs n (listed es) ≤ 1) → extensions_at s from to strict ≡ All (known_at from es)
+    → ((n : ℕ) → KnownNumber n → occurs n (listed es) ≤ 1) → extensions_at s from to strict ≡ Ok (known_at from es)
 unfolding extensions listed known_at explicit sequence
 extensions_found s from to strict missing h l small e each once =
     let n : to - from ≡ 0 = sym (part_length s from to l) ∙ ap length e in

@@ -7,42 +7,34 @@ use lib.Dec.{lit<, ltb, leb, eqb}
 use Rattle.refusal.specs.Refusals.{bad_der, trailing_bool, trailing_certificate_extensions, trailing_extension}
 use Rattle.refusal.proofs.Laws.{Mild}
 use Rattle.der.specs.declared.Span.{Span}
-use Rattle.der.specs.declared.Read.{Read}
-use Rattle.der.specs.declared.Read.TheVariants.{Value, Refused as NoValue}
-use Rattle.der.specs.declared.Got.{Got}
-use Rattle.der.specs.declared.Got.TheVariants.{Content, Refused as NoContent}
-use Rattle.values.specs.declared.Truth.{Truth}
-use Rattle.values.specs.declared.Truth.TheVariants.{Is as Said, Refused as NoTruth}
 use Rattle.der.specs.Model.{read_value, of_tag, expect_at, on_content}
-use Rattle.values.specs.Model.{only_byte, truth_in, read_bool}
+use Rattle.values.specs.Model.{only_byte, truth_in, read_bool, truth_is}
 use Rattle.extensions.specs.declared.Known.{Known}
-use Rattle.extensions.specs.declared.Kept.{Kept}
-use Rattle.extensions.specs.declared.Kept.TheVariants.{All, Refused as NotKept}
 use Rattle.extensions.specs.declared.Extension.{Extension}
-use Rattle.extensions.specs.declared.Parsed.{Parsed}
-use Rattle.extensions.specs.declared.Parsed.TheVariants.{Is, Refused as NotParsed}
 use Rattle.der.specs.Loop.{run, walk}
 use Rattle.extensions.specs.Model.{Move, Next, Stop, kind_of, slot_of, none_known, on_truth, extension_in, content_of, passed_over, remembered, on_parsed, on_kept, taken, go_on, all_kept, gathered, extensions_at}
+use Rattle.std.specs.Prelude.{None, Ok, Err, Some, Option, Result}
+use Rattle.der.specs.declared.Value.{Value}
 
 abbrev pub Fair : ℕ → Type 0
 Fair e = (0 < e) × Mild e
 
 -- an answer whose refusal, if it is one, is fair
-pub data GotFair : Got → Type 0 where
-  got_is : (p : Span) → GotFair (Content p)
-  got_not : {e : ℕ} → Fair e → GotFair (NoContent e)
+pub data GotFair : Result Span ℕ → Type 0 where
+  got_is : (p : Span) → GotFair (Ok p)
+  got_not : {e : ℕ} → Fair e → GotFair (Err e)
 
-pub data TruthFair : Truth → Type 0 where
-  truth_is : (b : Bool) (n : ℕ) → TruthFair (Said b n)
-  truth_not : {e : ℕ} → Fair e → TruthFair (NoTruth e)
+pub data TruthFair : Result (Bool × ℕ) ℕ → Type 0 where
+  truth_said : (b : Bool) (n : ℕ) → TruthFair (truth_is b n)
+  truth_not : {e : ℕ} → Fair e → TruthFair (Err e)
 
-data ParsedFair : Parsed → Type 0 where
-  parsed_is : (x : Extension) → ParsedFair (Is x)
-  parsed_not : {e : ℕ} → Fair e → ParsedFair (NotParsed e)
+data ParsedFair : Result Extension ℕ → Type 0 where
+  parsed_is : (x : Extension) → ParsedFair (Ok x)
+  parsed_not : {e : ℕ} → Fair e → ParsedFair (Err e)
 
-pub data KeptFair : Kept → Type 0 where
-  kept_is : (k : Known) → KeptFair (All k)
-  kept_not : {e : ℕ} → Fair e → KeptFair (NotKept e)
+pub data KeptFair : Result Known ℕ → Type 0 where
+  kept_is : (k : Known) → KeptFair (Ok k)
+  kept_not : {e : ℕ} → Fair e → KeptFair (Err e)
 
 data StepFair : Move → Type 0 where
   step_is : (at : ℕ) (k : Known) → StepFair (Next at k)
@@ -53,16 +45,16 @@ pub by_test : {A : Type 0} (P : A → Type 0) (b : Bool) {x y : A} → P x → P
 by_test P true p q = p
 by_test P false p q = q
 
-pub by_content : {A : Type 0} (P : A → Type 0) (g : Got) (other : ℕ → A) (k : ℕ → ℕ → A) → GotFair g → ((e : ℕ) → Fair e → P (other e)) → ((a b : ℕ) → P (k a b)) → P (on_content g other k)
+pub by_content : {A : Type 0} (P : A → Type 0) (g : Result Span ℕ) (other : ℕ → A) (k : ℕ → ℕ → A) → GotFair g → ((e : ℕ) → Fair e → P (other e)) → ((a b : ℕ) → P (k a b)) → P (on_content g other k)
 unfolding on_content
-by_content P (Content p) other k (got_is q) o i = i p.start p.end
-by_content P (NoContent e) other k (got_not f) o i = o e f
+by_content P (Ok p) other k (got_is q) o i = i p.start p.end
+by_content P (Err e) other k (got_not f) o i = o e f
 
 -- ---- der, values
-of_tag_fair : (tag refusal : ℕ) (r : Read) → Fair refusal → GotFair (of_tag tag refusal r)
+of_tag_fair : (tag refusal : ℕ) (r : Option Value) → Fair refusal → GotFair (of_tag tag refusal r)
 unfolding of_tag
-of_tag_fair tag refusal (Value t a b) h = by_test GotFair (eqb t tag) (got_is _) (got_not h)
-of_tag_fair tag refusal NoValue h = got_not h
+of_tag_fair tag refusal (Some v) h = by_test GotFair (eqb v.tag tag) (got_is _) (got_not h)
+of_tag_fair tag refusal None h = got_not h
 
 module _ (s : List ℕ) (from to : ℕ) where
   pub expect_fair : (tag refusal : ℕ) → Fair refusal → GotFair (expect_at s from to tag refusal)
@@ -72,8 +64,8 @@ module _ (s : List ℕ) (from to : ℕ) where
   truth_in_fair : TruthFair (truth_in s from to)
   unfolding truth_in only_byte
   truth_in_fair =
-      let one : (v : Bool) → TruthFair (cond (eqb (to - from) 1) (Said v to) (NoTruth trailing_bool)) =
-      λ v. by_test TruthFair (eqb (to - from) 1) (truth_is v to) (truth_not (lit< tt, lit< tt)) in
+      let one : (v : Bool) → TruthFair (cond (eqb (to - from) 1) (truth_is v to) (Err trailing_bool)) =
+      λ v. by_test TruthFair (eqb (to - from) 1) (truth_said v to) (truth_not (lit< tt, lit< tt)) in
       by_test TruthFair (ltb (length s) to) (truth_not (lit< tt, lit< tt))
       (by_test TruthFair (leb to from) (truth_not (lit< tt, lit< tt))
       (by_test TruthFair (eqb (get_or s from 0) 255) (one true) (by_test TruthFair (eqb (get_or s from 0) 0) (one false) (truth_not (lit< tt, lit< tt)))))
@@ -83,41 +75,41 @@ module _ (s : List ℕ) (from to : ℕ) where
   unfolding read_bool
   bool_fair =
       by_test TruthFair (ltb (length s) to) (truth_not (lit< tt, lit< tt))
-      (by_test TruthFair (leb to from) (truth_is _ _)
+      (by_test TruthFair (leb to from) (truth_said _ _)
       (by_test TruthFair (eqb (get_or s from 0) 1)
-      (by_content TruthFair (expect_at s from to 1 trailing_bool) NoTruth (truth_in s) (expect_fair s from to 1 _ (lit< tt, lit< tt)) (λ e h. truth_not h) (truth_in_fair s))
-      (truth_is _ _)))
+      (by_content TruthFair (expect_at s from to 1 trailing_bool) Err (truth_in s) (expect_fair s from to 1 _ (lit< tt, lit< tt)) (λ e h. truth_not h) (truth_in_fair s))
+      (truth_said _ _)))
 
 -- ---- extensions: an answer that was gone on from
-on_truth_fair : {A : Type 0} (P : A → Type 0) (g : Truth) (other : ℕ → A) (k : Bool → ℕ → A) → TruthFair g → ((e : ℕ) → Fair e → P (other e)) → ((b : Bool) (n : ℕ) → P (k b n)) → P (on_truth g other k)
+on_truth_fair : {A : Type 0} (P : A → Type 0) (g : Result (Bool × ℕ) ℕ) (other : ℕ → A) (k : Bool → ℕ → A) → TruthFair g → ((e : ℕ) → Fair e → P (other e)) → ((b : Bool) (n : ℕ) → P (k b n)) → P (on_truth g other k)
 unfolding on_truth
-on_truth_fair P (Said b n) other k (truth_is c m) o i = i b n
-on_truth_fair P (NoTruth e) other k (truth_not f) o i = o e f
+on_truth_fair P (Ok v) other k (truth_said c m) o i = i v.0 v.1
+on_truth_fair P (Err e) other k (truth_not f) o i = o e f
 
-on_parsed_fair : {A : Type 0} (P : A → Type 0) (g : Parsed) (other : ℕ → A) (k : Extension → A) → ParsedFair g → ((e : ℕ) → Fair e → P (other e)) → ((x : Extension) → P (k x)) → P (on_parsed g other k)
+on_parsed_fair : {A : Type 0} (P : A → Type 0) (g : Result Extension ℕ) (other : ℕ → A) (k : Extension → A) → ParsedFair g → ((e : ℕ) → Fair e → P (other e)) → ((x : Extension) → P (k x)) → P (on_parsed g other k)
 unfolding on_parsed
-on_parsed_fair P (Is x) other k (parsed_is y) o i = i x
-on_parsed_fair P (NotParsed e) other k (parsed_not f) o i = o e f
+on_parsed_fair P (Ok x) other k (parsed_is y) o i = i x
+on_parsed_fair P (Err e) other k (parsed_not f) o i = o e f
 
-pub on_kept_fair : {A : Type 0} (P : A → Type 0) (g : Kept) (other : ℕ → A) (k : Known → A) → KeptFair g → ((e : ℕ) → Fair e → P (other e)) → ((x : Known) → P (k x)) → P (on_kept g other k)
+pub on_kept_fair : {A : Type 0} (P : A → Type 0) (g : Result Known ℕ) (other : ℕ → A) (k : Known → A) → KeptFair g → ((e : ℕ) → Fair e → P (other e)) → ((x : Known) → P (k x)) → P (on_kept g other k)
 unfolding on_kept
-on_kept_fair P (All x) other k (kept_is y) o i = i x
-on_kept_fair P (NotKept e) other k (kept_not f) o i = o e f
+on_kept_fair P (Ok x) other k (kept_is y) o i = i x
+on_kept_fair P (Err e) other k (kept_not f) o i = o e f
 
 -- ---- extensions: each answer
 module _ (s : List ℕ) where
   extension_fair : (from to : ℕ) → ParsedFair (extension_in s from to)
   unfolding extension_in
   extension_fair from to =
-      by_content ParsedFair (expect_at s from to 6 bad_der) NotParsed _ (expect_fair s from to 6 _ (lit< tt, lit< tt)) (λ e h. parsed_not h) (λ a b.
-      on_truth_fair ParsedFair (read_bool s b to) NotParsed _ (bool_fair s b to) (λ e h. parsed_not h) (λ critical next.
-      by_content ParsedFair (expect_at s next to 4 bad_der) NotParsed _ (expect_fair s next to 4 _ (lit< tt, lit< tt)) (λ e h. parsed_not h) (λ c d. parsed_is _)))
+      by_content ParsedFair (expect_at s from to 6 bad_der) Err _ (expect_fair s from to 6 _ (lit< tt, lit< tt)) (λ e h. parsed_not h) (λ a b.
+      on_truth_fair ParsedFair (read_bool s b to) Err _ (bool_fair s b to) (λ e h. parsed_not h) (λ critical next.
+      by_content ParsedFair (expect_at s next to 4 bad_der) Err _ (expect_fair s next to 4 _ (lit< tt, lit< tt)) (λ e h. parsed_not h) (λ c d. parsed_is _)))
 
   content_fair : (kind : ℕ) (value : Span) → GotFair (content_of s kind value)
   unfolding content_of
   content_fair kind value =
       by_test GotFair (eqb kind 15) (got_is _)
-      (by_content GotFair (expect_at s value.start value.end 48 bad_der) NoContent _ (expect_fair s value.start value.end 48 _ (lit< tt, lit< tt)) (λ e h. got_not h) (λ a b.
+      (by_content GotFair (expect_at s value.start value.end 48 bad_der) Err _ (expect_fair s value.start value.end 48 _ (lit< tt, lit< tt)) (λ e h. got_not h) (λ a b.
       by_test GotFair (eqb b value.end) (got_is _) (got_not (lit< tt, lit< tt))))
 
   passed_fair : (strict critical : Bool) (known : Known) → KeptFair (passed_over strict critical known)
@@ -130,7 +122,7 @@ module _ (s : List ℕ) where
       let kind = kind_of s x.identifier.start x.identifier.end in
       by_test KeptFair (eqb kind 0) (passed_fair strict x.critical known)
       (by_test KeptFair (slot_of known kind).known (kept_not (lit< tt, lit< tt))
-      (by_content KeptFair (content_of s kind x.value) NotKept _ (content_fair kind x.value) (λ e h. kept_not h) (λ a b. kept_is _)))
+      (by_content KeptFair (content_of s kind x.value) Err _ (content_fair kind x.value) (λ e h. kept_not h) (λ a b. kept_is _)))
 
   taken_fair : (at to : ℕ) (known : Known) (strict : Bool) → StepFair (taken s at to known strict)
   unfolding taken
@@ -140,7 +132,7 @@ module _ (s : List ℕ) where
       on_kept_fair StepFair (remembered s x known strict) Stop _ (remembered_fair x known strict) (λ e h. step_not h) (λ now.
       by_test StepFair (eqb x.value.end b) (step_is b now) (step_not (lit< tt, lit< tt)))))
 
-  go_fair : (x : Move) (k : ℕ → Known → Kept) → StepFair x → ((at : ℕ) (known : Known) → KeptFair (k at known)) → KeptFair (go_on x k)
+  go_fair : (x : Move) (k : ℕ → Known → Result Known ℕ) → StepFair x → ((at : ℕ) (known : Known) → KeptFair (k at known)) → KeptFair (go_on x k)
   unfolding go_on
   go_fair (Next at known) k f i = i at known
   go_fair (Stop e) k (step_not f) i = kept_not f
@@ -159,7 +151,7 @@ module _ (s : List ℕ) where
   unfolding extensions_at
   extensions_fair from to strict =
       by_test KeptFair (eqb from to) (kept_is _)
-      (by_content KeptFair (expect_at s from to 163 trailing_certificate_extensions) NotKept _ (expect_fair s from to 163 _ (lit< tt, lit< tt)) (λ e h. kept_not h) (λ a b.
-      by_content KeptFair (expect_at s a b 48 trailing_extension) NotKept _ (expect_fair s a b 48 _ (lit< tt, lit< tt)) (λ e h. kept_not h) (λ c d.
-      on_kept_fair KeptFair (gathered s c d strict) NotKept _ (gathered_fair c d strict) (λ e h. kept_not h) (λ known.
+      (by_content KeptFair (expect_at s from to 163 trailing_certificate_extensions) Err _ (expect_fair s from to 163 _ (lit< tt, lit< tt)) (λ e h. kept_not h) (λ a b.
+      by_content KeptFair (expect_at s a b 48 trailing_extension) Err _ (expect_fair s a b 48 _ (lit< tt, lit< tt)) (λ e h. kept_not h) (λ c d.
+      on_kept_fair KeptFair (gathered s c d strict) Err _ (gathered_fair c d strict) (λ e h. kept_not h) (λ known.
       by_test KeptFair (eqb d b) (by_test KeptFair (eqb b to) (kept_is known) (kept_not (lit< tt, lit< tt))) (kept_not (lit< tt, lit< tt))))))

@@ -6,10 +6,9 @@ use mathlib.Core.Bool.{Bool, true, false}
 use mathlib.Core.Logic.{inr, ⊎_elim}
 use lib.ListN.{length, get_or}
 use native.Mathlib.Omega.{arith}
-use Rattle.values.specs.declared.Truth.TheVariants.{Is as Said}
 use Rattle.der.specs.Places.{Bytes, part}
 use Rattle.der.specs.X690.{encoding, truth}
-use Rattle.values.specs.Model.{read_bool}
+use Rattle.values.specs.Model.{read_bool, truth_is}
 use Rattle.der.proofs.Parts.{part_length, part_cons, part_none, part_front}
 use Rattle.values.proofs.SmallValues.{There, true_is, false_is, is_bool, absent_bool}
 use Rattle.extensions.specs.Rfc5280.{boolean, octet_string, Criticality, unwritten, written, is_critical, criticality}
@@ -55,13 +54,13 @@ one_written s from to b next t =
       bytes = t.bytes;
     }
 
-pub critical_here : (s : List ℕ) → Bytes s → (from to : ℕ) (b : Bool) (next : ℕ) → read_bool s from to ≡ Said b next → CriticalHere s from b next
+pub critical_here : (s : List ℕ) → Bytes s → (from to : ℕ) (b : Bool) (next : ℕ) → read_bool s from to ≡ truth_is b next → CriticalHere s from b next
 critical_here s w from to true next e = one_written s from to true next (true_is s w from to next e)
 critical_here s w from to false next e =
     ⊎_elim (λ h. not_written s from next h.0) (λ t. one_written s from to false next t) (false_is s w from to next e)
 
 written_found : (s : List ℕ) (from to : ℕ) (b : Bool) (rest : List ℕ) → from ≤ to → to ≤ length s → part s from to ≡ boolean b ++ rest
-    → (read_bool s from to ≡ Said b (from + length (boolean b))) × (from + length (boolean b) ≤ to) × (part s (from + length (boolean b)) to ≡ rest)
+    → (read_bool s from to ≡ truth_is b (from + length (boolean b))) × (from + length (boolean b) ≤ to) × (part s (from + length (boolean b)) to ≡ rest)
 unfolding boolean
 written_found s from to b rest h l e =
     let f = part_front s from to (encoding 1 (truth b)) rest h l e in
@@ -69,10 +68,10 @@ written_found s from to b rest h l e =
 
 -- a criticality before a value is read back
 pub critical_found : (s : List ℕ) (from to : ℕ) (form : Criticality) (value : List ℕ) → from ≤ to → to ≤ length s → part s from to ≡ criticality form ++ octet_string value
-    → (read_bool s from to ≡ Said (is_critical form) (from + length (criticality form))) × (from + length (criticality form) ≤ to) × (part s (from + length (criticality form)) to ≡ octet_string value)
+    → (read_bool s from to ≡ truth_is (is_critical form) (from + length (criticality form))) × (from + length (criticality form) ≤ to) × (part s (from + length (criticality form)) to ≡ octet_string value)
 unfolding criticality is_critical octet_string encoding
 critical_found s from to unwritten value h l e =
     let t = part_first s from to 4 _ h l e in
     let n : from + 0 ≡ from = omega arith in
-    (absent_bool s from to l (inr (λ o. omega (arith, t.1))) ∙ ap (λ (x : ℕ). Said false x) (sym n), omega arith, rw n e)
+    (absent_bool s from to l (inr (λ o. omega (arith, t.1))) ∙ ap (λ (x : ℕ). truth_is false x) (sym n), omega arith, rw n e)
 critical_found s from to (written b) value h l e = written_found s from to b (octet_string value) h l e

@@ -8,7 +8,6 @@ use lib.ListN.{length}
 use native.Mathlib.Omega.{arith}
 use Rattle.refusal.specs.Refusals.{bad_der, trailing_extension, trailing_certificate_extensions}
 use Rattle.der.specs.declared.Span.{Span}
-use Rattle.der.specs.declared.Got.TheVariants.{Content}
 use Rattle.der.specs.Places.{Bytes, part}
 use Rattle.der.specs.X690.{encoding}
 use Rattle.der.specs.Model.{expect_at}
@@ -18,8 +17,6 @@ use Rattle.parts.proofs.Equal.{same_true}
 use Rattle.der.proofs.Parts.{part_length, part_split, part_none}
 use Rattle.der.proofs.Loop.{Going, turn, stop, finish, start}
 use Rattle.extensions.specs.declared.Known.{Known}
-use Rattle.extensions.specs.declared.Kept.{Kept}
-use Rattle.extensions.specs.declared.Kept.TheVariants.{All, Refused as NotKept}
 use Rattle.extensions.specs.declared.Extension.{Extension as Read}
 use Rattle.extensions.specs.Model.{Move, Next, Stop, taken, go_on, all_kept, slot_of, none_known, gathered, extensions_at}
 use Rattle.extensions.specs.Accepted.{Taken, usage, known, other, Each, none, more, KnownNumber, occurs}
@@ -31,6 +28,7 @@ use Rattle.extensions.proofs.Value.{Here, here, here_split}
 use Rattle.extensions.proofs.Small.{critical_here}
 use Rattle.extensions.proofs.Numbers.{kind_inv, kind_none}
 use Rattle.extensions.proofs.Slots.{Holds, Within, AllWithin, set_within, alone, kept_usage, kept_sequence, filled, after_all, used, one, set_filled, none_filled, after_more, after_none, used_few, used_filled, KnownWithin, known_within, none_within, after_first, used_none}
+use Rattle.std.specs.Prelude.{Ok, Err, Result}
 
 -- ---- one extension
 -- the extension that the places cut out
@@ -106,7 +104,7 @@ record Keeps (s : List ℕ) (strict : Bool) (n at : ℕ) (x : Extension) (p : Sp
   pub within : Within s p.start p.end
 
 keeps : (s : List ℕ) → Bytes s → (strict : Bool) (n at : ℕ) (x : Extension) (v p : Span) → KnownNumber n → x.identifier ≡ id_ce n → x.value ≡ part s v.start v.end → value_of at x ≡ v → Within s v.start v.end
-    → ((n ≡ 15) × (p ≡ v)) ⊎ ((n ≡ 15 → ⊥) × (expect_at s v.start v.end 48 bad_der ≡ Content p) × (p.end ≡ v.end)) → Keeps s strict n at x p
+    → ((n ≡ 15) × (p ≡ v)) ⊎ ((n ≡ 15 → ⊥) × (expect_at s v.start v.end 48 bad_der ≡ Ok p) × (p.end ≡ v.end)) → Keeps s strict n at x p
 unfolding sequence
 keeps s b strict n at x v p number is value place inside found =
     ⊎_elim
@@ -214,22 +212,22 @@ list_more s at at' to k k' strict now t l =
     }
 
 module _ (s : List ℕ) (b : Bytes s) (to : ℕ) (strict : Bool) where
-  abbrev steps : ℕ → Known → (ℕ → Known → Kept) → Kept
+  abbrev steps : ℕ → Known → (ℕ → Known → Result Known ℕ) → Result Known ℕ
   steps at k = go_on (taken s at to k strict)
 
-  one_step : (fuel at : ℕ) (k now : Known) {r : Kept} → r ≡ All now → Going to all_kept steps r at k → at < to
+  one_step : (fuel at : ℕ) (k now : Known) {r : Result Known ℕ} → r ≡ Ok now → Going to all_kept steps r at k → at < to
       → ((at' : ℕ) (k' : Known) → at < at' → at' ≤ to → Going to all_kept steps r at' k' → ListHere s at' to k' strict now)
       → (x : Move) → taken s at to k strict ≡ x → ListHere s at to k strict now
   one_step fuel at k now e g h again (Next at' k') t =
       let y = step_here s b at to k strict at' k' t in
       list_more s at at' to k k' strict now y (again at' k' y.ahead y.inside (turn to all_kept steps at at' k k' g h y.ahead (go_next t)))
-  one_step fuel at k now e g h again (Stop n) t = absurd (not_kept n (stop to all_kept steps at k (NotKept n) g h (go_stop t) ∙ e))
+  one_step fuel at k now e g h again (Stop n) t = absurd (not_kept n (stop to all_kept steps at k (Err n) g h (go_stop t) ∙ e))
 
-  pub list_here : (fuel at : ℕ) (k now : Known) {r : Kept} → to - at ≤ fuel → at ≤ to → r ≡ All now → Going to all_kept steps r at k → ListHere s at to k strict now
+  pub list_here : (fuel at : ℕ) (k now : Known) {r : Result Known ℕ} → to - at ≤ fuel → at ≤ to → r ≡ Ok now → Going to all_kept steps r at k → ListHere s at to k strict now
   unfolding all_kept
   list_here zero at k now l h e g =
       let n : at ≡ to = omega arith in
-      let f : All k ≡ All now = finish to all_kept steps at k g (omega arith) ∙ e in
+      let f : Ok k ≡ Ok now = finish to all_kept steps at k g (omega arith) ∙ e in
       let z : k ≡ now = cc in
       rw (← n, ← z) (list_none s at k strict)
   list_here (suc fuel) at k now l h e g =
@@ -237,7 +235,7 @@ module _ (s : List ℕ) (b : Bytes s) (to : ℕ) (strict : Bool) where
       (λ m. one_step fuel at k now e g m (λ at' k' a i g'. list_here fuel at' k' now (omega arith) i e g') (taken s at to k strict) refl)
       (λ m.
       let n : at ≡ to = omega arith in
-      let f : All k ≡ All now = finish to all_kept steps at k g m ∙ e in
+      let f : Ok k ≡ Ok now = finish to all_kept steps at k g m ∙ e in
       let z : k ≡ now = cc in
       rw (← n, ← z) (list_none s at k strict))
       (lt_or_le at to)
@@ -281,7 +279,7 @@ some_extensions s b from to strict k l =
       sits = known_within s k (h.sits (none_within s));
     }
 
-pub extensions_here : (s : List ℕ) → Bytes s → (from to : ℕ) (strict : Bool) (k : Known) → extensions_at s from to strict ≡ All k → ExtensionsHere s from to strict k
+pub extensions_here : (s : List ℕ) → Bytes s → (from to : ℕ) (strict : Bool) (k : Known) → extensions_at s from to strict ≡ Ok k → ExtensionsHere s from to strict k
 extensions_here s b from to strict k e =
     ⊎_elim
     (λ h. rw (← h.0, h.1) (no_extensions s from strict))

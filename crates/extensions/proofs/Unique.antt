@@ -8,18 +8,18 @@ use lib.Dec.{eqb}
 use native.Mathlib.Omega.{arith}
 use Rattle.refusal.specs.Refusals.{bad_der}
 use Rattle.der.specs.declared.Span.{Span}
-use Rattle.der.specs.declared.Got.TheVariants.{Content}
 use Rattle.der.specs.Places.{part, LIMIT}
 use Rattle.der.specs.X690.{encoding, truth}
 use Rattle.extensions.specs.Rfc5280.{Criticality, unwritten, written, Extension, Extensions, missing, present, octet_string, object_identifier, sequence, explicit, boolean, criticality, extension_content, extension, extension_list, extensions}
 use Rattle.extensions.specs.Layout.{place_of}
 use Rattle.der.proofs.Parts.{part_whole}
 use Rattle.extensions.proofs.Value.{encoded_length, Found, find}
+use Rattle.std.specs.Prelude.{Ok}
 
 -- ---- one value before others: its content and what comes after it are determined
 found_once : (s : List ℕ) (tag : ℕ) (x x' rest rest' : List ℕ) → Found s 0 (length s) tag x rest → Found s 0 (length s) tag x' rest' → (x ≡ x') × (rest ≡ rest')
 found_once s tag x x' rest rest' f g =
-    let c : Content (place_of 0 x) ≡ Content (place_of 0 x') = sym (f.found bad_der) ∙ g.found bad_der in
+    let c : Ok (place_of 0 x) ≡ Ok (place_of 0 x') = sym (f.found bad_der) ∙ g.found bad_der in
     let p : place_of 0 x ≡ place_of 0 x' = cc in
     (sym f.content ∙ ap (λ (q : Span). part s q.start q.end) p ∙ g.content, sym f.left ∙ ap (λ (q : Span). part s q.end (length s)) p ∙ g.left)
 

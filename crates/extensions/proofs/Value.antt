@@ -7,7 +7,6 @@ use lib.ListN.{length, length-append}
 use lib.Dec.{eqb}
 use native.Mathlib.Omega.{arith}
 use Rattle.der.specs.declared.Span.{Span}
-use Rattle.der.specs.declared.Got.TheVariants.{Content}
 use Rattle.der.specs.Places.{Bytes, part, LIMIT}
 use Rattle.der.specs.X690.{length_bytes, encoding}
 use Rattle.der.specs.Model.{high_tag, expect_at}
@@ -16,6 +15,7 @@ use Rattle.der.proofs.Parts.{part_length, part_split, part_front}
 use Rattle.der.proofs.Laid.{expect_laid, laid_read}
 use Rattle.extensions.specs.Model.{span}
 use Rattle.extensions.specs.Layout.{place_of}
+use Rattle.std.specs.Prelude.{Ok}
 
 -- ---- where a content lies
 pub encoded_length : (tag : ℕ) (x : List ℕ) → length (encoding tag x) ≡ 1 + length (length_bytes (length x)) + length x
@@ -51,7 +51,7 @@ pub record Here (s : List ℕ) (from to tag : ℕ) (p : Span) : Type 0 where
   pub place : p ≡ place_of from (part s p.start p.end)
   pub bytes : part s from p.end ≡ encoding tag (part s p.start p.end)
 
-pub here : (s : List ℕ) → Bytes s → (from to tag e : ℕ) (p : Span) → expect_at s from to tag e ≡ Content p → Here s from to tag p
+pub here : (s : List ℕ) → Bytes s → (from to tag e : ℕ) (p : Span) → expect_at s from to tag e ≡ Ok p → Here s from to tag p
 here s b from to tag e p h =
     let w = expect_laid s b from to tag e p h in
     let l : length (encoding tag (part s p.start p.end)) ≡ p.end - from = sym (ap length w.bytes) ∙ part_length s from p.end (omega arith) in
@@ -72,7 +72,7 @@ here_split s from to tag p h = rw (← h.bytes) (part_split s from p.end to (ome
 
 -- ---- a value that is to be read
 pub record Found (s : List ℕ) (from to tag : ℕ) (x rest : List ℕ) : Type 0 where
-  pub found : (e : ℕ) → expect_at s from to tag e ≡ Content (place_of from x)
+  pub found : (e : ℕ) → expect_at s from to tag e ≡ Ok (place_of from x)
   pub after : from < (place_of from x).start
   pub ordered : (place_of from x).start ≤ (place_of from x).end
   pub inside : (place_of from x).end ≤ to

@@ -1,28 +1,32 @@
 -- What the code answers, as functions of the bytes: the same tests in the same order.
-use Rattle.std.specs.Prelude.{ℕ, ◌+◌, ◌-◌, List, Bool, true, false, cond, length, get_or, ltb, eqb}
+use Rattle.std.specs.Prelude.{ℕ, ◌+◌, ◌-◌, List, Bool, true, false, cond, length, get_or, ltb, eqb, Option, None, Some, Ok, Err, Result}
 use Rattle.refusal.specs.Refusals.{bad_der, trailing_certificate_tbs_certificate, trailing_certificate_extensions, trailing_extension, unsupported_critical_extension, extension_value_invalid}
 use Rattle.der.specs.declared.Span.{Span}
-use Rattle.der.specs.declared.Got.{Got}
-use Rattle.der.specs.declared.Got.TheVariants.{Content, Refused as NoContent}
-use Rattle.values.specs.declared.Truth.{Truth}
-use Rattle.values.specs.declared.Truth.TheVariants.{Is as Said, Refused as NoTruth}
 use Rattle.der.specs.Model.{expect_at, on_content}
 use Rattle.values.specs.Model.{read_bool}
 use Rattle.der.specs.Loop.{walk}
 use Rattle.extensions.specs.declared.Slot.{Slot}
 use Rattle.extensions.specs.declared.Known.{Known}
-use Rattle.extensions.specs.declared.Kept.{Kept}
-use Rattle.extensions.specs.declared.Kept.TheVariants.{All, Refused as NotKept}
 use Rattle.extensions.specs.declared.Extension.{Extension}
-use Rattle.extensions.specs.declared.Parsed.{Parsed}
-use Rattle.extensions.specs.declared.Parsed.TheVariants.{Is, Refused as NotParsed}
-use Rattle.extensions.specs.declared.Ruling.{Ruling}
-use Rattle.extensions.specs.declared.Ruling.TheVariants.{Pass, Keep as Fill, Refused as NotRuled}
-use Rattle.extensions.specs.declared.Step.{Step}
-use Rattle.extensions.specs.declared.Step.TheVariants.{Skip, Keep, Stop as Stopped}
+use Rattle.extensions.specs.declared.Find.{Find}
+use Rattle.extensions.specs.declared.Kind.{Kind}
+use Rattle.extensions.specs.declared.Kind.TheVariants.{KeyUsage, AlternativeName, BasicConstraints, NameConstraints, DistributionPoints, KeyPurposes}
 
 abbrev pub span : ℕ → ℕ → Span
 span a b = record { start = a; end = b }
+
+-- the last number of a kind's identifier, and 0 for no kind
+unfoldable pub number : Kind → ℕ
+number KeyUsage = 15
+number AlternativeName = 17
+number BasicConstraints = 19
+number NameConstraints = 30
+number DistributionPoints = 31
+number KeyPurposes = 37
+
+unfoldable pub number_of : Option Kind → ℕ
+number_of (Some kind) = number kind
+number_of None = 0
 
 -- the known kinds: the last number of an identifier under id-ce; 0 for every other identifier
 unfoldable pub known_kind : ℕ → ℕ
@@ -88,52 +92,56 @@ none_known =
       key_purposes = absent;
     }
 
-unfoldable pub on_truth : {R : Type 0} → Truth → (ℕ → R) → (Bool → ℕ → R) → R
-on_truth (Said b next) other k = k b next
-on_truth (NoTruth e) other k = other e
+unfoldable pub on_truth : {R : Type 0} → Result (Bool × ℕ) ℕ → (ℕ → R) → (Bool → ℕ → R) → R
+on_truth (Ok v) other k = k v.0 v.1
+on_truth (Err e) other k = other e
 
-unfoldable pub extension_in : List ℕ → ℕ → ℕ → Parsed
+unfoldable pub extension_in : List ℕ → ℕ → ℕ → Result Extension ℕ
 extension_in s from to =
-    on_content (expect_at s from to 6 bad_der) NotParsed (λ a b.
-    on_truth (read_bool s b to) NotParsed (λ critical next.
-    on_content (expect_at s next to 4 bad_der) NotParsed (λ c d.
-    Is (record { identifier = span a b; critical = critical; value = span c d }))))
+    on_content (expect_at s from to 6 bad_der) Err (λ a b.
+    on_truth (read_bool s b to) Err (λ critical next.
+    on_content (expect_at s next to 4 bad_der) Err (λ c d.
+    Ok (record { identifier = span a b; critical = critical; value = span c d }))))
 
-unfoldable pub content_of : List ℕ → ℕ → Span → Got
+unfoldable pub content_of : List ℕ → ℕ → Span → Result Span ℕ
 content_of s kind value =
     cond (eqb kind 15)
-    (Content value)
-    (on_content (expect_at s value.start value.end 48 bad_der) NoContent (λ a b.
-    cond (eqb b value.end) (Content (span a b)) (NoContent bad_der)))
+    (Ok value)
+    (on_content (expect_at s value.start value.end 48 bad_der) Err (λ a b.
+    cond (eqb b value.end) (Ok (span a b)) (Err bad_der)))
 
 -- an extension of an unknown kind
-unfoldable pub passed_over : Bool → Bool → Known → Kept
+unfoldable pub passed_over : Bool → Bool → Known → Result Known ℕ
 passed_over strict critical known =
-    cond strict (cond critical (NotKept unsupported_critical_extension) (All known)) (All known)
+    cond strict (cond critical (Err unsupported_critical_extension) (Ok known)) (Ok known)
 
-unfoldable pub remembered : List ℕ → Extension → Known → Bool → Kept
+unfoldable pub remembered : List ℕ → Extension → Known → Bool → Result Known ℕ
 remembered s x known strict =
     let kind = kind_of s x.identifier.start x.identifier.end in
     cond (eqb kind 0)
     (passed_over strict x.critical known)
     (cond (slot_of known kind).known
-    (NotKept extension_value_invalid)
-    (on_content (content_of s kind x.value) NotKept (λ a b.
-    All (set_slot known kind (there a b)))))
+    (Err extension_value_invalid)
+    (on_content (content_of s kind x.value) Err (λ a b.
+    Ok (set_slot known kind (there a b)))))
+
+-- the slots with what was found beside these
+unfoldable pub with_find : Known → Option Find → Known
+with_find known None = known
+with_find known (Some f) = set_slot known (number f.kind) (there f.start f.end)
 
 -- the slots after a ruling that was given beside these
-unfoldable pub ruled : Known → Ruling → Kept
-ruled known Pass = All known
-ruled known (Fill kind start end) = All (set_slot known kind (there start end))
-ruled known (NotRuled e) = NotKept e
+unfoldable pub ruled : Known → Result (Option Find) ℕ → Result Known ℕ
+ruled known (Ok find) = Ok (with_find known find)
+ruled known (Err e) = Err e
 
-unfoldable pub on_parsed : {R : Type 0} → Parsed → (ℕ → R) → (Extension → R) → R
-on_parsed (Is x) other k = k x
-on_parsed (NotParsed e) other k = other e
+unfoldable pub on_parsed : {R : Type 0} → Result Extension ℕ → (ℕ → R) → (Extension → R) → R
+on_parsed (Ok x) other k = k x
+on_parsed (Err e) other k = other e
 
-unfoldable pub on_kept : {R : Type 0} → Kept → (ℕ → R) → (Known → R) → R
-on_kept (All x) other k = k x
-on_kept (NotKept e) other k = other e
+unfoldable pub on_kept : {R : Type 0} → Result Known ℕ → (ℕ → R) → (Known → R) → R
+on_kept (Ok x) other k = k x
+on_kept (Err e) other k = other e
 
 -- where the next extension begins and the slots by then, or why there is none
 pub data Move : Type 0 where
@@ -148,29 +156,28 @@ taken s at to known strict =
     cond (eqb x.value.end b) (Next b now) (Stop trailing_extension))))
 
 -- what a step says beside the slots that it was taken with
-unfoldable pub moved : Known → Step → Move
-moved known (Skip at) = Next at known
-moved known (Keep at kind start end) = Next at (set_slot known kind (there start end))
-moved known (Stopped e) = Stop e
+unfoldable pub moved : Known → Result (ℕ × Option Find) ℕ → Move
+moved known (Ok step) = Next step.0 (with_find known step.1)
+moved known (Err e) = Stop e
 
-unfoldable pub go_on : Move → (ℕ → Known → Kept) → Kept
+unfoldable pub go_on : Move → (ℕ → Known → Result Known ℕ) → Result Known ℕ
 go_on (Next at known) k = k at known
-go_on (Stop e) k = NotKept e
+go_on (Stop e) k = Err e
 
-unfoldable pub all_kept : ℕ → Known → Kept
-all_kept at known = All known
+unfoldable pub all_kept : ℕ → Known → Result Known ℕ
+all_kept at known = Ok known
 
-unfoldable pub gathered : List ℕ → ℕ → ℕ → Bool → Kept
+unfoldable pub gathered : List ℕ → ℕ → ℕ → Bool → Result Known ℕ
 gathered s from to strict =
     walk to all_kept (λ at known. go_on (taken s at to known strict)) from none_known
 
-unfoldable pub extensions_at : List ℕ → ℕ → ℕ → Bool → Kept
+unfoldable pub extensions_at : List ℕ → ℕ → ℕ → Bool → Result Known ℕ
 extensions_at s from to strict =
     cond (eqb from to)
-    (All none_known)
-    (on_content (expect_at s from to 163 trailing_certificate_extensions) NotKept (λ a b.
-    on_content (expect_at s a b 48 trailing_extension) NotKept (λ c d.
-    on_kept (gathered s c d strict) NotKept (λ known.
+    (Ok none_known)
+    (on_content (expect_at s from to 163 trailing_certificate_extensions) Err (λ a b.
+    on_content (expect_at s a b 48 trailing_extension) Err (λ c d.
+    on_kept (gathered s c d strict) Err (λ known.
     cond (eqb d b)
-    (cond (eqb b to) (All known) (NotKept trailing_certificate_tbs_certificate))
-    (NotKept trailing_certificate_extensions)))))
+    (cond (eqb b to) (Ok known) (Err trailing_certificate_tbs_certificate))
+    (Err trailing_certificate_extensions)))))

@@ -9,13 +9,11 @@
 //     show_all(&mut to, &text[..size], &mut out)?;
 //     to.flush()
 //
-// and goes from line to line, with `length text - at` as the measure:
+// and goes from line to line:
 //
-//     while at < text.len() {
-//         let end = hexlines::line_end(text, at);
-//         let count = hexlines::bytes(text, at, end, out);
+//     for line in text.split_inclusive(|b| *b == b'\n') {
+//         let count = hexlines::bytes(line, 0, hexlines::line_end(line, 0), out);
 //         show(to, &out[..count])?;
-//         at = end + 1;
 //     }
 #![tactic(auto)]
 
@@ -23,6 +21,7 @@ ghost use Rattle.std.specs.Prelude.{◌≤◌, ◌≡◌, ◌<◌, length, take,
 ghost use Rattle.std.specs.Io.KnownBytes.{Consumes, IsAtEnd};
 ghost use Rattle.hexlines.specs.Counts.{IsPrefixLen};
 
+use std::cmp::min;
 use std::io;
 use std::io::Read;
 
@@ -62,14 +61,10 @@ pub fn read_full<R: Read>(reader: &mut R, buf: &mut [u8]) -> io::Result<usize>
 pub fn line_end(text: &[u8], at: usize) -> usize
     ensures { at ≤ length text.now → (at ≤ result) × (result ≤ length text.now) }
 {
-    let mut i = at;
-    while i < text.len() {
-        if text[i] == b'\n' {
-            return i;
-        }
-        i += 1;
+    match text.get(at..) {
+        Some(rest) => at + rest.iter().position(|b| *b == b'\n').unwrap_or(rest.len()),
+        None => at,
     }
-    i
 }
 
 // Puts the bytes that the digits from `at` to `end` write at the start of `out`, as many as it holds, and answers how many they
@@ -77,21 +72,15 @@ pub fn line_end(text: &[u8], at: usize) -> usize
 pub fn bytes(text: &[u8], at: usize, end: usize, out: &mut [u8]) -> usize
     ensures { IsPrefixLen result out.new }
 {
-    if text.len() < end {
+    let Some(digits) = text.get(at..end) else {
         return 0;
-    }
-    if end < at {
-        return 0;
-    }
-    let all = (end - at) / 2;
-    let mut n: usize = 0;
-    while n < all {
+    };
+    let mut n = 0;
+    for pair in digits.chunks_exact(2) {
         if out.len() <= n {
             return n;
         }
-        let high = text[at + 2 * n];
-        let low = text[at + 2 * n + 1];
-        out[n] = digit(high) * 16 + digit(low);
+        out[n] = digit(pair[0]) * 16 + digit(pair[1]);
         n += 1;
     }
     n
@@ -109,40 +98,23 @@ pub fn padded(text: &[u8], at: usize, end: usize, out: &mut [u8]) -> usize
 
 // The place of the first `+`, or the end.
 fn plus_at(text: &[u8], at: usize, end: usize) -> usize {
-    let mut i = at;
-    while i < end {
-        if text.len() <= i {
-            return end;
-        }
-        if text[i] == b'+' {
-            return i;
-        }
-        i += 1;
+    let line = text.get(at..end).unwrap_or(&[]);
+    match line.iter().position(|b| *b == b'+') {
+        Some(n) => at + n,
+        None => end,
     }
-    end
 }
 
 // The number that the digits after the place write, or the largest of seven digits; 0 where there are none.
 fn decimal(text: &[u8], plus: usize, end: usize) -> usize
     ensures { result ≤ 9999999 }
 {
-    let mut value: usize = 0;
-    if text.len() < end {
-        return 0;
-    }
     if end <= plus {
         return 0;
     }
-    let mut i = plus + 1;
-    while i < end {
-        if 999999 < value {
-            return 9999999;
-        }
-        value = value * 10 + (digit(text[i]) as usize);
-        if 9999999 < value {
-            return 9999999;
-        }
-        i += 1;
+    let mut value = 0;
+    for b in text.get(plus + 1..end).unwrap_or(&[]) {
+        value = min(value * 10 + digit(*b) as usize, 9999999);
     }
     value
 }
@@ -154,39 +126,18 @@ fn zeros(out: &mut [u8], from: usize, wanted: usize) -> usize
     if out.len() < from {
         return 0;
     }
-    let mut n = from;
-    let mut left = wanted;
-    while 0 < left {
-        if n == out.len() {
-            return n;
-        }
-        out[n] = 0;
-        n += 1;
-        left -= 1;
-    }
-    n
+    let end = from + min(wanted, out.len() - from);
+    out[from..end].fill(0);
+    end
 }
 
 fn digit(b: u8) -> u8
     ensures { result ≤ 15 }
 {
-    if b < b'0' {
-        return 0;
+    match b {
+        b'0'..=b'9' => b - b'0',
+        b'A'..=b'F' => b - b'A' + 10,
+        b'a'..=b'f' => b - b'a' + 10,
+        _ => 0,
     }
-    if b <= b'9' {
-        return b - b'0';
-    }
-    if b < b'A' {
-        return 0;
-    }
-    if b <= b'F' {
-        return b - b'A' + 10;
-    }
-    if b < b'a' {
-        return 0;
-    }
-    if b <= b'f' {
-        return b - b'a' + 10;
-    }
-    0
 }

@@ -6,9 +6,9 @@ use mathlib.Core.Logic.{⊎_elim}
 use lib.ListN.{get_or, replicate}
 use native.Mathlib.Omega.{arith}
 use Rattle.der.proofs.Laws.{lt_or_le}
-use Rattle.dns.specs.declared.Answer.TheVariants.{No}
 use Rattle.ip.specs.Addresses.{bits_of, bits, Prefix, Halves}
 use Rattle.ip.specs.Model.{neither, broken_mask, masked_byte, on_masked, subnet_from, match_subnet}
+use Rattle.std.specs.Prelude.{Ok, false}
 
 -- the bits of a mask of n ones: 1 before place n, and 0 from there on
 one_at : (n i : ℕ) (rest : List ℕ) → i < n → get_or (replicate n 1 ++ rest) i 0 ≡ 1
@@ -44,6 +44,6 @@ no_prefix n x = ⊎_elim more few (lt_or_le 16 n)
     few : n ≤ 16 → ⊥
     few h = omega (arith, ap (λ (l : List ℕ). get_or l 16 0) x.is, zero_at n (32 - n) 16 h)
 
-pub d20 : (match_subnet outer entry ≡ No) × Halves outer entry (10 ∷ 0 ∷ 0 ∷ 0 ∷ []) mask × ((n : ℕ) → Prefix n mask → ⊥)
+pub d20 : (match_subnet outer entry ≡ Ok false) × Halves outer entry (10 ∷ 0 ∷ 0 ∷ 0 ∷ []) mask × ((n : ℕ) → Prefix n mask → ⊥)
 unfolding match_subnet subnet_from on_masked masked_byte broken_mask neither
 d20 = (refl, record { is = refl; address_size = refl; mask_size = refl }, no_prefix)

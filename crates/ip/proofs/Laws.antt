@@ -1,19 +1,18 @@
 -- Laws of the definitions of `specs/Model.antt` that the functions' proofs cite: each exit and each turn of a loop. Assumes nothing.
-use Prim.Native.Nat.{ℕ, ◌+◌, ◌-◌, ◌*◌, ◌≤◌, ◌<◌}
+use Prim.Native.Nat.{ℕ, ◌+◌, ◌≤◌, ◌<◌}
 use mathlib.Core.Path.{◌≡◌, refl}
 use mathlib.Core.List.{List}
 use mathlib.Core.Bool.{Bool, true, false, cond, not}
 use mathlib.Core.Logic.{◌⊎◌, inl, inr, ⊎_elim}
-use lib.ListN.{length, get_or, take, drop}
+use lib.ListN.{length, get_or, drop}
 use lib.Dec.{eqb}
-use native.Mathlib.Omega.{arith}
 use borrow.Author.Tests.{eq-eqb, eqb-true, not-false}
-use Rattle.dns.specs.declared.Answer.TheVariants.{Yes, No, Refused}
 use Rattle.ip.specs.declared.Masked.TheVariants.{Same, Differs, Broken}
 use Rattle.refusal.specs.Refusals.{invalid_network_mask_constraint}
 use Rattle.der.proofs.Invert.{either}
-use Rattle.texts.proofs.Laws.{rest_all, at_place, past_end}
-use Rattle.ip.specs.Model.{neither, match_subnet, masked_byte, on_masked, subnet_from}
+use Rattle.texts.proofs.Laws.{at_place, past_end}
+use Rattle.ip.specs.Model.{neither, masked_byte, on_masked, subnet_from}
+use Rattle.std.specs.Prelude.{Ok, Err}
 
 pub neither_false : (n a b : ℕ) → neither n a b ≡ false → (n ≡ a) ⊎ (n ≡ b)
 unfolding neither
@@ -29,29 +28,21 @@ either_size n a b (inr e) = go (eqb n a)
     go true = refl
     go false = rw (eq-eqb n b e)
 
--- the two parts of a subnet, as they are cut out of it
-pub subnet_parts : (p q : List ℕ) → neither (length p) 4 16 ≡ false → neither (length q) 8 32 ≡ false → length q ≡ length p * 2
-    → match_subnet p q ≡ subnet_from true p (take (length p - 0) q) (take (length q - length p) (drop (length p) q))
-unfolding match_subnet
-subnet_parts p q h k e =
-    let z : length p - 0 ≡ length p = omega arith in
-    rw (h, k, eq-eqb _ _ e, z, rest_all q (length p))
-
 module _ (full : Bool) (p a ms : List ℕ) (i : ℕ) (h : i < length p) (k : i < length a) (l : i < length ms) where
   pub subnet_turn : masked_byte full (get_or ms i 0) (get_or p i 0) (get_or a i 0) ≡ Same
       → subnet_from (eqb (get_or ms i 0) 255) (drop (i + 1) p) (drop (i + 1) a) (drop (i + 1) ms) ≡ subnet_from full (drop i p) (drop i a) (drop i ms)
   unfolding subnet_from on_masked
   subnet_turn e = rw (at_place p i h, at_place a i k, at_place ms i l, e)
 
-  pub subnet_differs : masked_byte full (get_or ms i 0) (get_or p i 0) (get_or a i 0) ≡ Differs → subnet_from full (drop i p) (drop i a) (drop i ms) ≡ No
+  pub subnet_differs : masked_byte full (get_or ms i 0) (get_or p i 0) (get_or a i 0) ≡ Differs → subnet_from full (drop i p) (drop i a) (drop i ms) ≡ Ok false
   unfolding subnet_from on_masked
   subnet_differs e = rw (at_place p i h, at_place a i k, at_place ms i l, e)
 
   pub subnet_broken : masked_byte full (get_or ms i 0) (get_or p i 0) (get_or a i 0) ≡ Broken
-      → subnet_from full (drop i p) (drop i a) (drop i ms) ≡ Refused invalid_network_mask_constraint
+      → subnet_from full (drop i p) (drop i a) (drop i ms) ≡ Err invalid_network_mask_constraint
   unfolding subnet_from on_masked
   subnet_broken e = rw (at_place p i h, at_place a i k, at_place ms i l, e)
 
-pub subnet_end : (full : Bool) (p a ms : List ℕ) (i : ℕ) → length p ≤ i → subnet_from full (drop i p) (drop i a) (drop i ms) ≡ Yes
+pub subnet_end : (full : Bool) (p a ms : List ℕ) (i : ℕ) → length p ≤ i → subnet_from full (drop i p) (drop i a) (drop i ms) ≡ Ok true
 unfolding subnet_from
 subnet_end full p a ms i h = rw (past_end p i h)

@@ -13,8 +13,6 @@ use borrow.Author.Tests.{eqb-true, eqb-false}
 use Rattle.der.specs.Places.{Bytes}
 use Rattle.der.proofs.Laws.{lt_or_le}
 use Rattle.der.proofs.Parts.{append_inv}
-use Rattle.dns.specs.declared.Answer.{Answer}
-use Rattle.dns.specs.declared.Answer.TheVariants.{Yes, No, Refused}
 use Rattle.dns.proofs.Laws.{yes_refused, no_refused}
 use Rattle.ip.specs.Addresses.{bits_of, bits, Prefix, Inside, InSubnet, IsAddress, IsEntry, Halves, InMasked}
 use Rattle.ip.specs.Masks.{Masked, whole, outside}
@@ -22,6 +20,7 @@ use Rattle.ip.specs.Model.{neither, match_subnet}
 use Rattle.ip.proofs.Bits.{bits_length}
 use Rattle.ip.proofs.Laws.{neither_false, either_size}
 use Rattle.ip.proofs.Subnet.{no_address, no_subnet, other_length, Says, prefix, broken, subnet_says}
+use Rattle.std.specs.Prelude.{Ok, Err, Result}
 
 -- ---- bits
 bits_both : (a b : List ℕ) → bits (a ++ b) ≡ bits a ++ bits b
@@ -175,14 +174,14 @@ fewer : (i n : ℕ) (p a : List ℕ) → i ≤ n → Inside n p a → Inside i p
 fewer i n p a l h = sym (take-take i n (bits p) l) ∙ ap (take i) h ∙ take-take i n (bits a) l
 
 -- ---- an address and an entry
-abbrev pub Answered : Answer → Type 0
-Answered a = (a ≡ Yes) ⊎ (a ≡ No)
+abbrev pub Answered : Result Bool ℕ → Type 0
+Answered a = (a ≡ Ok true) ⊎ (a ≡ Ok false)
 
 module _ (p q : List ℕ) (bp : Bytes p) (bq : Bytes q) where
-  sizes : (x : Answer) → Answered x → match_subnet p q ≡ x → IsAddress p × IsEntry q
+  sizes : (x : Result Bool ℕ) → Answered x → match_subnet p q ≡ x → IsAddress p × IsEntry q
   sizes x d e = go (neither (length p) 4 16) (neither (length q) 8 32) refl refl d
     where
-      refused : {y : ℕ} → match_subnet p q ≡ Refused y → Answered x → ⊥
+      refused : {y : ℕ} → match_subnet p q ≡ Err y → Answered x → ⊥
       refused r (inl y) = yes_refused (sym (e ∙ y) ∙ r)
       refused r (inr y) = no_refused (sym (e ∙ y) ∙ r)
 
@@ -212,7 +211,7 @@ module _ (p q : List ℕ) (bp : Bytes p) (bq : Bytes q) where
     says : Says p a m
     says = let b = bytes_two a m (rw (← take-append-drop (length p) q) at bq) in subnet_says p a m bp b.0 b.1 size halves.address_size halves.mask_size
 
-    is_said : (x : Answer) → match_subnet p (a ++ m) ≡ x → match_subnet p q ≡ x
+    is_said : (x : Result Bool ℕ) → match_subnet p (a ++ m) ≡ x → match_subnet p q ≡ x
     is_said x e = ap (match_subnet p) halves.is ∙ e
 
     -- an answer says that the mask is good for the address
@@ -229,8 +228,8 @@ module _ (p q : List ℕ) (bp : Bytes p) (bq : Bytes q) where
     masked_answered k = go says k
       where
         both : Answered (match_subnet p (a ++ m)) → Answered (match_subnet p q)
-        both (inl y) = inl (is_said Yes y)
-        both (inr y) = inr (is_said No y)
+        both (inl y) = inl (is_said (Ok true) y)
+        both (inr y) = inr (is_said (Ok false) y)
 
         small : (k : ℕ) → k < length m → k ≤ length m
         small k h = omega arith

@@ -14,8 +14,6 @@ use Rattle.refusal.specs.Refusals.{bad_der, invalid_network_mask_constraint}
 use Rattle.der.specs.Places.{Bytes}
 use Rattle.der.proofs.Laws.{lt_or_le}
 use Rattle.der.proofs.Parts.{append_inv}
-use Rattle.dns.specs.declared.Answer.{Answer}
-use Rattle.dns.specs.declared.Answer.TheVariants.{Yes, No, Refused}
 use Rattle.ip.specs.declared.Masked.TheVariants.{Same, Differs}
 use Rattle.dns.specs.Answers.{Answers, Decides}
 use Rattle.ip.specs.Addresses.{bits_of, bits, Prefix, Inside, InSubnet}
@@ -25,6 +23,7 @@ use Rattle.dns.proofs.Texts.{both}
 use Rattle.dns.proofs.Laws.{yes_no, yes_refused, no_refused}
 use Rattle.ip.proofs.Laws.{neither_false, either_size}
 use Rattle.ip.proofs.Bits.{up_to_8, bytes_cons, bits_length, bits_quotient, quotient_bits, bits_within, bits_past, mask_of, mask_more, mask_last, mask_length, mask_prefix, prefix_mask}
+use Rattle.std.specs.Prelude.{Ok, Err, Result}
 
 -- ---- a byte of the mask
 -- j ones leave blocks of 2 ^ (8 - j)
@@ -45,19 +44,19 @@ module _ (full : Bool) (x y m : ℕ) (p a ms : List ℕ) where
   unfolding subnet_from on_masked
   byte_same e = rw e
 
-  byte_differs : masked_byte full m x y ≡ Differs → subnet_from full (x ∷ p) (y ∷ a) (m ∷ ms) ≡ No
+  byte_differs : masked_byte full m x y ≡ Differs → subnet_from full (x ∷ p) (y ∷ a) (m ∷ ms) ≡ Ok false
   unfolding subnet_from on_masked
   byte_differs e = rw e
 
-  byte_broken : broken_mask full m ≡ true → subnet_from full (x ∷ p) (y ∷ a) (m ∷ ms) ≡ Refused invalid_network_mask_constraint
+  byte_broken : broken_mask full m ≡ true → subnet_from full (x ∷ p) (y ∷ a) (m ∷ ms) ≡ Err invalid_network_mask_constraint
   unfolding subnet_from on_masked masked_byte
   byte_broken e = rw e
 
 -- ---- a front of the mask that is a prefix of ones, and an answer x to all that comes after it
-abbrev After : Bool → List ℕ → Answer → Type 0
+abbrev After : Bool → List ℕ → Result Bool ℕ → Type 0
 After full rest x = (p a : List ℕ) → length p ≡ length rest → length a ≡ length rest → subnet_from full p a rest ≡ x
 
-zeros : (k : ℕ) (p a rest : List ℕ) (x : Answer) → Bytes p → Bytes a → length p ≡ k + length rest → length a ≡ k + length rest → After false rest x
+zeros : (k : ℕ) (p a rest : List ℕ) (x : Result Bool ℕ) → Bytes p → Bytes a → length p ≡ k + length rest → length a ≡ k + length rest → After false rest x
     → subnet_from false p a (mask_of 0 k ++ rest) ≡ x
 unfolding mask_of
 zeros zero p a rest x b c l h f = f p a (omega arith) (omega arith)
@@ -90,7 +89,7 @@ full_on n k l = go (eqb (n - 8) (8 * k)) refl
     go false e = ne_eqb n (8 * suc k) (λ q. eqb-false (n - 8) (8 * k) e (omega arith))
 
 -- eight ones, and what is after them
-front_more : (n k y z : ℕ) (p a rest : List ℕ) (x : Answer) → 8 ≤ n → Bytewise y z 8
+front_more : (n k y z : ℕ) (p a rest : List ℕ) (x : Result Bool ℕ) → 8 ≤ n → Bytewise y z 8
     → Answers x (subnet_from true p a (mask_of (n - 8) k ++ rest)) (Inside (n - 8) p a) → Answers x (subnet_from true (y ∷ p) (z ∷ a) (mask_of n (suc k) ++ rest)) (Inside n (y ∷ p) (z ∷ a))
 front_more n k y z p a rest x l (agree q m) r = rw (mask_more n k l, bits_past n y p l, bits_past n z a l, byte_same true y z 255 p a (mask_of (n - 8) k ++ rest) m) (go r)
   where
@@ -106,7 +105,7 @@ front_more n k y z p a rest x l (differ q m) r =
     (inr (byte_differs true y z 255 p a (mask_of (n - 8) k ++ rest) m, λ e. q (whole_byte y ∙ (append_inv (bits_of 8 y) (bits_of 8 z) (take (n - 8) (bits p)) (take (n - 8) (bits a)) (bits_length 8 y ∙ sym (bits_length 8 z)) e).0 ∙ sym (whole_byte z))))
 
 -- the last ones, and zeros
-front_last : (n k y z : ℕ) (p a rest : List ℕ) (x : Answer) → n < 8 → Bytewise y z n → subnet_from false p a (mask_of 0 k ++ rest) ≡ x
+front_last : (n k y z : ℕ) (p a rest : List ℕ) (x : Result Bool ℕ) → n < 8 → Bytewise y z n → subnet_from false p a (mask_of 0 k ++ rest) ≡ x
     → Answers x (subnet_from true (y ∷ p) (z ∷ a) (mask_of n (suc k) ++ rest)) (Inside n (y ∷ p) (z ∷ a))
 front_last n k y z p a rest x l (agree q m) r =
     rw (mask_last n k l, bits_within n y p (omega arith), bits_within n z a (omega arith))
@@ -115,7 +114,7 @@ front_last n k y z p a rest x l (differ q m) r =
     rw (mask_last n k l, bits_within n y p (omega arith), bits_within n z a (omega arith))
     (inr (byte_differs true y z (256 - 2 ^ (8 - n)) p a (mask_of 0 k ++ rest) m, q))
 
-front : (k n : ℕ) (p a rest : List ℕ) (x : Answer) → Bytes p → Bytes a → n ≤ 8 * k → length p ≡ k + length rest → length a ≡ k + length rest → After (eqb n (8 * k)) rest x
+front : (k n : ℕ) (p a rest : List ℕ) (x : Result Bool ℕ) → Bytes p → Bytes a → n ≤ 8 * k → length p ≡ k + length rest → length a ≡ k + length rest → After (eqb n (8 * k)) rest x
     → Answers x (subnet_from true p a (mask_of n k ++ rest)) (Inside n p a)
 unfolding mask_of
 front zero n p a rest x b c l h i f =
@@ -213,21 +212,21 @@ view (z ∷ ms) b = go (broken_mask true z) refl (view ms (λ i. b (suc i)))
     go false e v = let g = good_byte z (b 0) e in view_byte z g.0 ms g.1.0 g.1.1 v
 
 -- ---- what comes after a front
-after_none : (full : Bool) → After full [] Yes
+after_none : (full : Bool) → After full [] (Ok true)
 unfolding subnet_from
 after_none full [] a l h = refl
 after_none full (y ∷ p) a l h = absurd (omega arith)
 
-after_broken : (full : Bool) (z : ℕ) (ms : List ℕ) → broken_mask full z ≡ true → After full (z ∷ ms) (Refused invalid_network_mask_constraint)
+after_broken : (full : Bool) (z : ℕ) (ms : List ℕ) → broken_mask full z ≡ true → After full (z ∷ ms) (Err invalid_network_mask_constraint)
 after_broken full z ms e [] a l h = absurd (omega arith)
 after_broken full z ms e (x ∷ p) [] l h = absurd (omega arith)
 after_broken full z ms e (x ∷ p) (y ∷ a) l h = byte_broken full x y z p a ms e
 
 whole_answers : (n k : ℕ) (p a : List ℕ) → Bytes p → Bytes a → n ≤ 8 * k → length p ≡ k → length a ≡ k → Decides (subnet_from true p a (mask_of n k)) (Inside n p a)
 whole_answers n k p a b c l h i =
-    ap_answers (ap (subnet_from true p a) (append-nil (mask_of n k))) (front k n p a [] Yes b c l (omega arith) (omega arith) (after_none (eqb n (8 * k))))
+    ap_answers (ap (subnet_from true p a) (append-nil (mask_of n k))) (front k n p a [] (Ok true) b c l (omega arith) (omega arith) (after_none (eqb n (8 * k))))
   where
-    ap_answers : {x y : Answer} → x ≡ y → Decides x (Inside n p a) → Decides y (Inside n p a)
+    ap_answers : {x y : Result Bool ℕ} → x ≡ y → Decides x (Inside n p a) → Decides y (Inside n p a)
     ap_answers e w = rw e at w
 
 -- ---- a byte after which no mask goes on
@@ -241,7 +240,7 @@ cut_front n k z ms =
     let e : suc k ≡ length (mask_of n k) + 1 = omega (arith, mask_length n k) in
     ap (λ (i : ℕ). take i (mask_of n k ++ (z ∷ ms))) e ∙ take-append-add (mask_of n k) (z ∷ ms) 1
 
-surely : {x y : Answer} {P : Type 0} → Answers x y P → P → y ≡ x
+surely : {x y : Result Bool ℕ} {P : Type 0} → Answers x y P → P → y ≡ x
 surely (inl w) p = w.0
 surely (inr w) p = absurd (w.1 p)
 
@@ -250,28 +249,28 @@ no_prefix n k z l x b j p =
     let m = mask_of n k ++ (z ∷ []) in
     let s : length m ≡ k + 1 = length-append (mask_of n k) (z ∷ []) ∙ omega (arith, mask_length n k) in
     let e : m ≡ mask_of j (length m) = prefix_mask j m b p in
-    let y : subnet_from true m m (mask_of j (length m)) ≡ Yes = surely (whole_answers j (length m) m m b b p.few refl refl) refl in
-    let r : subnet_from true m m m ≡ Refused invalid_network_mask_constraint = surely (front k n m m (z ∷ []) (Refused invalid_network_mask_constraint) b b l s s (after_broken (eqb n (8 * k)) z [] x)) refl in
+    let y : subnet_from true m m (mask_of j (length m)) ≡ Ok true = surely (whole_answers j (length m) m m b b p.few refl refl) refl in
+    let r : subnet_from true m m m ≡ Err invalid_network_mask_constraint = surely (front k n m m (z ∷ []) (Err invalid_network_mask_constraint) b b l s s (after_broken (eqb n (8 * k)) z [] x)) refl in
     yes_refused (sym y ∙ ap (subnet_from true m m) (sym e) ∙ r)
 
 -- ---- the answer
 -- what is no address and no subnet, and an address of another length than the subnet's
-pub no_address : (p q : List ℕ) → neither (length p) 4 16 ≡ true → match_subnet p q ≡ Refused bad_der
+pub no_address : (p q : List ℕ) → neither (length p) 4 16 ≡ true → match_subnet p q ≡ Err bad_der
 unfolding match_subnet
 no_address p q e = rw e
 
-pub no_subnet : (p q : List ℕ) → neither (length p) 4 16 ≡ false → neither (length q) 8 32 ≡ true → match_subnet p q ≡ Refused invalid_network_mask_constraint
+pub no_subnet : (p q : List ℕ) → neither (length p) 4 16 ≡ false → neither (length q) 8 32 ≡ true → match_subnet p q ≡ Err invalid_network_mask_constraint
 unfolding match_subnet
 no_subnet p q e f = rw (e, f)
 
-pub other_length : (p q : List ℕ) → neither (length p) 4 16 ≡ false → neither (length q) 8 32 ≡ false → (length q ≡ length p * 2 → ⊥) → match_subnet p q ≡ No
+pub other_length : (p q : List ℕ) → neither (length p) 4 16 ≡ false → neither (length q) 8 32 ≡ false → (length q ≡ length p * 2 → ⊥) → match_subnet p q ≡ Ok false
 unfolding match_subnet
 other_length p q e f n = rw (e, f, ne_eqb (length q) (length p * 2) n)
 
 pub data Says (p address mask : List ℕ) : Type 0 where
   prefix : (n : ℕ) → Prefix n mask → Decides (match_subnet p (address ++ mask)) (Inside n p address) → Says p address mask
   broken : (k n : ℕ) → k < length mask → Prefix n (take k mask) → ((j : ℕ) → Prefix j (take (suc k) mask) → ⊥)
-      → Answers (Refused invalid_network_mask_constraint) (match_subnet p (address ++ mask)) (Inside n p address) → Says p address mask
+      → Answers (Err invalid_network_mask_constraint) (match_subnet p (address ++ mask)) (Inside n p address) → Says p address mask
 
 module _ (p a m : List ℕ) (bp : Bytes p) (ba : Bytes a) (bm : Bytes m) (size : (length p ≡ 4) ⊎ (length p ≡ 16)) (la : length a ≡ length p) (lm : length m ≡ length p) where
   both_sizes : (length (a ++ m) ≡ 8) ⊎ (length (a ++ m) ≡ 32)
@@ -301,11 +300,11 @@ module _ (p a m : List ℕ) (bp : Bytes p) (ba : Bytes a) (bm : Bytes m) (size :
           let g : take (suc k) m ≡ mask_of n k ++ (z ∷ []) = ap (take (suc k)) e ∙ cut_front n k z ms in
           broken k n (omega arith) (rw f (mask_prefix n k l))
           (λ j y. no_prefix n k z l x (rw g at (bytes_take (suc k) m bm)) j (rw g at y))
-          (rw (match_is, e) (front k n p a (z ∷ ms) (Refused invalid_network_mask_constraint) bp ba l (omega arith) (omega arith) (after_broken (eqb n (8 * k)) z ms x)))
+          (rw (match_is, e) (front k n p a (z ∷ ms) (Err invalid_network_mask_constraint) bp ba l (omega arith) (omega arith) (after_broken (eqb n (8 * k)) z ms x)))
 
 -- ---- whatever the lengths: yes only if the address lies in the subnet, and no only if it does not
 -- an answer was given, so the address has one of the two lengths
-answered : (p q : List ℕ) (x : Answer) → ((e : ℕ) → x ≡ Refused e → ⊥) → match_subnet p q ≡ x → (length p ≡ 4) ⊎ (length p ≡ 16)
+answered : (p q : List ℕ) (x : Result Bool ℕ) → ((e : ℕ) → x ≡ Err e → ⊥) → match_subnet p q ≡ x → (length p ≡ 4) ⊎ (length p ≡ 16)
 answered p q x n e = go (neither (length p) 4 16) refl
   where
     go : (t : Bool) → neither (length p) 4 16 ≡ t → (length p ≡ 4) ⊎ (length p ≡ 16)
@@ -313,7 +312,7 @@ answered p q x n e = go (neither (length p) 4 16) refl
     go false h = neither_false (length p) 4 16 h
 
 -- and for a yes the subnet twice that length
-twice : (p q : List ℕ) → match_subnet p q ≡ Yes → length q ≡ length p * 2
+twice : (p q : List ℕ) → match_subnet p q ≡ Ok true → length q ≡ length p * 2
 twice p q e = go (neither (length p) 4 16) (neither (length q) 8 32) (eqb (length q) (length p * 2)) refl refl refl
   where
     go : (s t u : Bool) → neither (length p) 4 16 ≡ s → neither (length q) 8 32 ≡ t → eqb (length q) (length p * 2) ≡ u → length q ≡ length p * 2
@@ -326,8 +325,8 @@ bytes_append : (a m : List ℕ) → Bytes (a ++ m) → Bytes a × Bytes m
 bytes_append [] m b = ((λ i. omega arith), b)
 bytes_append (x ∷ a) m b = let r = bytes_append a m (λ i. b (suc i)) in (bytes_cons x a (b 0) r.0, r.1)
 
-pub subnet_yes : (p q : List ℕ) → Bytes p → Bytes q → match_subnet p q ≡ Yes → InSubnet p q
-subnet_yes p q bp bq e = go (subnet_says p a m bp bb.0 bb.1 (answered p q Yes (λ x. yes_refused) e) la lm)
+pub subnet_yes : (p q : List ℕ) → Bytes p → Bytes q → match_subnet p q ≡ Ok true → InSubnet p q
+subnet_yes p q bp bq e = go (subnet_says p a m bp bb.0 bb.1 (answered p q (Ok true) (λ x. yes_refused) e) la lm)
   where
     a : List ℕ
     a = take (length p) q
@@ -347,7 +346,7 @@ subnet_yes p q bp bq e = go (subnet_says p a m bp bb.0 bb.1 (answered p q Yes (�
     lm : length m ≡ length p
     lm = length-drop (length p) q ∙ omega (arith, twice p q e)
 
-    said : match_subnet p (a ++ m) ≡ Yes
+    said : match_subnet p (a ++ m) ≡ Ok true
     said = ap (match_subnet p) (sym is) ∙ e
 
     go : Says p a m → InSubnet p q
@@ -356,15 +355,15 @@ subnet_yes p q bp bq e = go (subnet_says p a m bp bb.0 bb.1 (answered p q Yes (�
     go (broken k n l x y (inl w)) = absurd (yes_refused (sym said ∙ w.0))
     go (broken k n l x y (inr w)) = absurd (yes_no (sym said ∙ w.0))
 
-pub subnet_no : (p q : List ℕ) → Bytes p → Bytes q → match_subnet p q ≡ No → InSubnet p q → ⊥
+pub subnet_no : (p q : List ℕ) → Bytes p → Bytes q → match_subnet p q ≡ Ok false → InSubnet p q → ⊥
 subnet_no p q bp bq e s =
     let bb = bytes_append s.address s.mask (rw s.is at bq) in
-    let said : match_subnet p (s.address ++ s.mask) ≡ No = ap (match_subnet p) (sym s.is) ∙ e in
-    let size = answered p q No (λ x. no_refused) e in
+    let said : match_subnet p (s.address ++ s.mask) ≡ Ok false = ap (match_subnet p) (sym s.is) ∙ e in
+    let size = answered p q (Ok false) (λ x. no_refused) e in
     yes_no (sym (surely (subnet_decides p s.address s.mask bp bb.0 bb.1 size s.address_size s.mask_size s.ones s.prefix) s.inside) ∙ said)
 
 -- an address that lies in it is never refused for it
-pub in_subnet_yes : (p q : List ℕ) → Bytes p → Bytes q → (length p ≡ 4) ⊎ (length p ≡ 16) → InSubnet p q → match_subnet p q ≡ Yes
+pub in_subnet_yes : (p q : List ℕ) → Bytes p → Bytes q → (length p ≡ 4) ⊎ (length p ≡ 16) → InSubnet p q → match_subnet p q ≡ Ok true
 in_subnet_yes p q bp bq size s =
     let bb = bytes_append s.address s.mask (rw s.is at bq) in
     ap (match_subnet p) s.is

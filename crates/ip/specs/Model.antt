@@ -1,7 +1,5 @@
 -- What the code answers, as functions of the bytes: the same tests in the same order.
-use Rattle.std.specs.Prelude.{ℕ, ◌-◌, ◌*◌, ◌/◌, ◌%◌, List, [], ◌∷◌, Bool, true, false, cond, not, length, take, drop, eqb}
-use Rattle.dns.specs.declared.Answer.{Answer}
-use Rattle.dns.specs.declared.Answer.TheVariants.{Yes, No, Refused}
+use Rattle.std.specs.Prelude.{ℕ, ◌-◌, ◌*◌, ◌/◌, ◌%◌, List, [], ◌∷◌, Bool, true, false, cond, not, length, take, drop, eqb, Ok, Err, Result}
 use Rattle.ip.specs.declared.Masked.{Masked}
 use Rattle.ip.specs.declared.Masked.TheVariants.{Same, Differs, Broken}
 use Rattle.refusal.specs.Refusals.{bad_der, invalid_network_mask_constraint}
@@ -18,26 +16,26 @@ unfoldable pub masked_byte : Bool → ℕ → ℕ → ℕ → Masked
 masked_byte full m x y =
     cond (broken_mask full m) Broken (cond (eqb (x / (256 - m)) (y / (256 - m))) Same Differs)
 
-unfoldable pub on_masked : Masked → Answer → Answer
+unfoldable pub on_masked : Masked → Result Bool ℕ → Result Bool ℕ
 on_masked Same next = next
-on_masked Differs next = No
-on_masked Broken next = Refused invalid_network_mask_constraint
+on_masked Differs next = Ok false
+on_masked Broken next = Err invalid_network_mask_constraint
 
-unfoldable pub subnet_from : Bool → List ℕ → List ℕ → List ℕ → Answer
-subnet_from full [] a ms = Yes
-subnet_from full (x ∷ p) [] ms = Yes
-subnet_from full (x ∷ p) (y ∷ a) [] = Yes
+unfoldable pub subnet_from : Bool → List ℕ → List ℕ → List ℕ → Result Bool ℕ
+subnet_from full [] a ms = Ok true
+subnet_from full (x ∷ p) [] ms = Ok true
+subnet_from full (x ∷ p) (y ∷ a) [] = Ok true
 subnet_from full (x ∷ p) (y ∷ a) (m ∷ ms) = on_masked (masked_byte full m x y) (subnet_from (eqb m 255) p a ms)
 
-unfoldable pub match_subnet : List ℕ → List ℕ → Answer
+unfoldable pub match_subnet : List ℕ → List ℕ → Result Bool ℕ
 match_subnet p q =
     cond (neither (length p) 4 16)
-    (Refused bad_der)
+    (Err bad_der)
     (cond (neither (length q) 8 32)
-    (Refused invalid_network_mask_constraint)
+    (Err invalid_network_mask_constraint)
     (cond (eqb (length q) (length p * 2))
     (subnet_from true p (take (length p) q) (drop (length p) q))
-    No))
+    (Ok false)))
 
 unfoldable pub same_address : List ℕ → List ℕ → Bool
 same_address p q = cond (neither (length p) 4 16) false (same_parts p 0 (length p) q 0 (length q))

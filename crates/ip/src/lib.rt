@@ -4,7 +4,7 @@
 ghost use Rattle.std.specs.Prelude.{◌≡◌, true, length};
 ghost use Rattle.ip.specs.Model.{neither, broken_mask, masked_byte, subnet_from, match_subnet, same_address};
 
-use dns::Answer;
+use refusal::Refusal;
 
 // The lengths of an address, and of a subnet: RFC 5280, 4.2.1.6 and 4.2.1.10.
 const IPV4: usize = 4;
@@ -26,10 +26,7 @@ pub enum Masked {
 fn neither(n: usize, a: usize, b: usize) -> bool
     ensures { result ≡ neither n a b }
 {
-    if n == a {
-        return false;
-    }
-    n != b
+    n != a && n != b
 }
 
 // Whether a mask byte is other than ones and then zeros, that is, whether 256 - mask does not divide 256; `full` says
@@ -37,13 +34,7 @@ fn neither(n: usize, a: usize, b: usize) -> bool
 fn broken_mask(full: bool, mask: u8) -> bool
     ensures { result ≡ broken_mask full mask }
 {
-    if mask == 0 {
-        return false;
-    }
-    if full {
-        return 256 % (256 - mask as usize) != 0;
-    }
-    true
+    mask != 0 && (!full || 256 % (256 - mask as usize) != 0)
 }
 
 // A byte of an address beside a subnet's. A mask byte of ones and then zeros cuts the numbers below 256 into blocks of
@@ -62,53 +53,41 @@ fn masked_byte(full: bool, mask: u8, x: u8, y: u8) -> Masked
 }
 
 // Whether an address lies in a subnet. The mask is read only as far as the two agree.
-fn in_subnet(p: &[u8], address: &[u8], mask: &[u8]) -> Answer
+fn in_subnet(p: &[u8], address: &[u8], mask: &[u8]) -> Result<bool, Refusal>
     requires { (length address.now ≡ length p.now) × (length mask.now ≡ length p.now) }
     ensures { result ≡ subnet_from true p.now address.now mask.now }
 {
     let mut full = true;
-    let mut i: usize = 0;
-    while i < p.len() {
-        let m = mask[i];
-        match masked_byte(full, m, p[i], address[i]) {
-            Masked::Same => {
-                full = m == 255;
-                i += 1;
-            }
-            Masked::Differs => {
-                return Answer::No;
-            }
-            Masked::Broken => {
-                return Answer::Refused(refusal::INVALID_NETWORK_MASK_CONSTRAINT);
-            }
+    for (i, m) in mask.iter().enumerate() {
+        match masked_byte(full, *m, p[i], address[i]) {
+            Masked::Same => full = *m == 255,
+            Masked::Differs => return Ok(false),
+            Masked::Broken => return Err(Refusal::INVALID_NETWORK_MASK_CONSTRAINT),
         }
     }
-    Answer::Yes
+    Ok(true)
 }
 
 // Whether the presented address p lies in the subnet q of a name constraint.
-pub fn match_subnet(p: &[u8], q: &[u8]) -> Answer
+pub fn match_subnet(p: &[u8], q: &[u8]) -> Result<bool, Refusal>
     ensures { result ≡ match_subnet p.now q.now }
 {
     if neither(p.len(), IPV4, IPV6) {
-        return Answer::Refused(refusal::BAD_DER);
+        return Err(Refusal::BAD_DER);
     }
     if neither(q.len(), IPV4_SUBNET, IPV6_SUBNET) {
-        return Answer::Refused(refusal::INVALID_NETWORK_MASK_CONSTRAINT);
+        return Err(Refusal::INVALID_NETWORK_MASK_CONSTRAINT);
     }
-    let n = p.len();
-    if q.len() != n * 2 {
-        return Answer::No;
+    if q.len() != p.len() * 2 {
+        return Ok(false);
     }
-    in_subnet(p, &q[0..n], &q[n..])
+    let (address, mask) = q.split_at(p.len());
+    in_subnet(p, address, mask)
 }
 
 // Whether the presented p is an address, and the one that is looked for.
 pub fn same_address(p: &[u8], q: &[u8]) -> bool
     ensures { result ≡ same_address p.now q.now }
 {
-    if neither(p.len(), IPV4, IPV6) {
-        return false;
-    }
-    parts::same(p, 0, p.len(), q, 0, q.len())
+    !neither(p.len(), IPV4, IPV6) && parts::same(p, 0, p.len(), q, 0, q.len())
 }

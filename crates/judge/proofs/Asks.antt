@@ -5,14 +5,11 @@ use mathlib.Core.Bool.{true}
 use mathlib.Core.List.{List, [], ◌∷◌}
 use lib.ListN.{length}
 use native.Mathlib.Omega.{arith}
-use Rattle.cert.specs.declared.key.Key.{Key}
-use Rattle.cert.specs.declared.key.Key.TheVariants.{Parts as KeyParts, Refused as NoKey}
 use Rattle.der.specs.declared.Span.{Span}
-use Rattle.asked.specs.declared.Question.TheVariants.{Of}
-use Rattle.asked.specs.Model.{key_of, question_of, question_in, reply_in, reply_for}
+use Rattle.asked.specs.Model.{key_of, question_of, question_in, reply_in, reply_for, question_is}
 use Rattle.rows.specs.Model.{outlined, on_outline}
 use Rattle.told.specs.declared.Asked.{Asked}
-use Rattle.told.specs.Model.{asked_of}
+use Rattle.told.specs.Model.{keyed_of, asked_of}
 use Rattle.asked.specs.Questions.{Signed, Opens}
 use Rattle.extensions.proofs.Slots.{Within}
 use Rattle.cert.proofs.Laws.{read_inside}
@@ -38,6 +35,8 @@ use Rattle.steps.specs.Model.{state_of}
 use Rattle.judge.specs.Steps.{Sees, At}
 use Rattle.judge.proofs.Calls.{other_phase, calls_came}
 use Rattle.judge.proofs.Questions.{OfCertificate, Down, search_asks, state_asks}
+use Rattle.std.specs.Prelude.{Err, Ok, Result}
+use Rattle.cert.specs.declared.key.Key.{Key}
 
 -- ---- what a question of a search is about
 pub record About (R : Request) (key what : ℕ) : Type 0 where
@@ -81,14 +80,14 @@ pub within : (s : List ℕ) (a b : ℕ) → Within s a b → Lie s a b
 within s a b w = (w.ordered, w.inside)
 
 module _ (R : Request) (lends : Lends R) (key what : ℕ) (x : About R key what) where
-  abbrev key_here : Key
+  abbrev key_here : Result Key ℕ
   key_here = key_of R.issuers R.end R.keys (length R.subjects) key
 
   record Told : Type 0 where
     signed : Span
     algorithm : Span
     signature : Span
-    is : question_of R.issuers R.end R.keys (length R.subjects) key what ≡ Of signed algorithm signature key_here
+    is : question_of R.issuers R.end R.keys (length R.subjects) key what ≡ question_is signed algorithm signature key_here
     signed_in : Lie (bytes_of R what) signed.start signed.end
     algorithm_in : Lie (bytes_of R what) algorithm.start algorithm.end
     signature_in : Lie (bytes_of R what) signature.start signature.end
@@ -108,7 +107,7 @@ module _ (R : Request) (lends : Lends R) (key what : ℕ) (x : About R key what)
         signature_in = within _ _ _ i.signature;
       }
 
-  shut : (e : ℕ) → key_here ≡ NoKey e → (e ≡ 0 → ⊥) → Opens R.issuers R.end R.keys (length R.subjects) key → ⊥
+  shut : (e : ℕ) → key_here ≡ Err e → (e ≡ 0 → ⊥) → Opens R.issuers R.end R.keys (length R.subjects) key → ⊥
   unfolding reply_in reply_for
   shut e k n o =
       let z = reply_complete R.issuers R.end R.keys (length R.subjects) key (bytes R lends key) o in
@@ -118,25 +117,25 @@ module _ (R : Request) (lends : Lends R) (key what : ℕ) (x : About R key what)
   abbrev KeySaid : Asked → Type 0
   KeySaid q = (q.key_refusal ≡ 0 → KeyTold R q) × ((q.key_refusal ≡ 0 → ⊥) → Opens R.issuers R.end R.keys (length R.subjects) q.key → ⊥)
 
-  abbrev asking : Key → Asked
-  asking k = asked_of key what (Of told.signed told.algorithm told.signature k)
+  abbrev asking : Result Key ℕ → Asked
+  asking k = asked_of key what (question_is told.signed told.algorithm told.signature k)
 
-  key_said : (k : Key) → key_here ≡ k → KeyFair k → KeySaid (asking k)
-  unfolding asked_of
-  key_said (KeyParts p q) e f =
-      let d = key_parted R.issuers R.end R.keys (length R.subjects) key (lends.keys key) (bytes R lends key) p q e in
+  key_said : (k : Result Key ℕ) → key_here ≡ k → KeyFair k → KeySaid (asking k)
+  unfolding asked_of keyed_of
+  key_said (Ok v) e f =
+      let d = key_parted R.issuers R.end R.keys (length R.subjects) key (lends.keys key) (bytes R lends key) v.algorithm v.bits e in
       (λ h. record { key = d.key; is = d.is; algorithm = _; bits = _; content = d.content; algorithm_is = refl; bits_is = refl; algorithm_in = within _ _ _ d.algorithm_within; bits_in = within _ _ _ d.bits_within }, λ h o. h refl)
-  key_said (NoKey n) e (key_not f) = (λ h. absurd (omega (arith, f.0, h)), λ h. shut n e h)
+  key_said (Err n) e (key_not f) = (λ h. absurd (omega (arith, f.0, h)), λ h. shut n e h)
 
-  asks_of : (k : Key) → KeySaid (asking k) → Asks R (asking k)
-  unfolding asked_of
+  asks_of : (k : Result Key ℕ) → KeySaid (asking k) → Asks R (asking k)
+  unfolding asked_of keyed_of
   asks_of k s = by k s
     where
       z : Signed (bytes_of R what) told.signed told.algorithm told.signature
       z = (question_sound R.issuers R.end R.keys (length R.subjects) key what (bytes R lends what) told.signed told.algorithm told.signature key_here told.is).0
 
-      by : (k : Key) → KeySaid (asking k) → Asks R (asking k)
-      by (KeyParts p q) s =
+      by : (k : Result Key ℕ) → KeySaid (asking k) → Asks R (asking k)
+      by (Ok v) s =
           record {
             what = (x.first, x.last);
             k = z.k;
@@ -153,7 +152,7 @@ module _ (R : Request) (lends : Lends R) (key what : ℕ) (x : About R key what)
             key_told = s.0;
             key_shut = s.1;
           }
-      by (NoKey n) s =
+      by (Err n) s =
           record {
             what = (x.first, x.last);
             k = z.k;

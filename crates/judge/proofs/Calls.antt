@@ -3,11 +3,8 @@ use Prim.Native.Nat.{ℕ, ◌≤◌}
 use mathlib.Core.Path.{◌≡◌, refl, sym, ◌∙◌, ap, subst}
 use mathlib.Core.List.{List, [], ◌∷◌, ◌++◌, append-nil}
 use native.Mathlib.Omega.{arith}
-use Rattle.cert.specs.declared.key.Key.TheVariants.{Parts, Refused as NoKey}
-use Rattle.asked.specs.declared.Question.{Question}
-use Rattle.asked.specs.declared.Question.TheVariants.{Of, Refused as NoQuestion}
 use Rattle.told.specs.declared.Asked.{Asked}
-use Rattle.told.specs.Model.{asked_of}
+use Rattle.told.specs.Model.{keyed_of, asked_of}
 use Rattle.machine.specs.Machine.{key_at, cert_at}
 use Rattle.dialogue.specs.Log.{What, of_certificate, Turn, answer, word}
 use Rattle.dialogue.specs.Model.{Tree, done, ask, offer, accepted, refused, spent}
@@ -22,6 +19,9 @@ use Rattle.judge.specs.Steps.{tree_from, Sees, At}
 use Rattle.judge.specs.Decides.{path_of}
 use Rattle.judge.specs.Calls.{TableHeld, Calls, begin, reply, content, over}
 use Rattle.judge.proofs.Questions.{OfCertificate, state_asks, asks_certificates}
+use Rattle.std.specs.Prelude.{Err, Ok, Result}
+use Rattle.cert.specs.declared.key.Key.{Key}
+use Rattle.asked.specs.declared.Question.{Question}
 
 -- ---- what a step shows is the turn that an answer makes
 pub other_phase {ℓ} : {P : Type ℓ} (s : Step) (m n : ℕ) → s.phase ≡ m → s.phase ≡ n → (m ≡ n → ⊥) → P
@@ -51,11 +51,15 @@ at_end s (ask key what u) a h p = absurd (omega (arith, h.0, p))
 at_end s (offer anchor path u) a h p = absurd (omega (arith, h.0, p))
 at_end s (done r) a h p = refl
 
-asked_numbers : (key what : ℕ) (q : Question) → ((asked_of key what q).key ≡ key) × ((asked_of key what q).certificate ≡ what)
+keyed_numbers : (key what : ℕ) (q : Question) (k : Result Key ℕ) → ((keyed_of key what q k).key ≡ key) × ((keyed_of key what q k).certificate ≡ what)
+unfolding keyed_of
+keyed_numbers key what q (Ok v) = (refl, refl)
+keyed_numbers key what q (Err e) = (refl, refl)
+
+asked_numbers : (key what : ℕ) (q : Result Question ℕ) → ((asked_of key what q).key ≡ key) × ((asked_of key what q).certificate ≡ what)
 unfolding asked_of
-asked_numbers key what (Of signed algorithm signature (Parts own bits)) = (refl, refl)
-asked_numbers key what (Of signed algorithm signature (NoKey e)) = (refl, refl)
-asked_numbers key what (NoQuestion e) = (refl, refl)
+asked_numbers key what (Ok q) = keyed_numbers key what q q.key
+asked_numbers key what (Err e) = (refl, refl)
 
 -- ---- calls, one after the other
 pub record Came (R : Request) (B : Budgets) (table : List (List ℕ)) (log : List Turn) (r : Step) : Type 0 where

@@ -10,14 +10,11 @@ use lib.Dec.{eqb}
 use native.Mathlib.Omega.{arith}
 use borrow.Author.Tests.{eqb-true, eqb-false}
 use Rattle.cert.specs.declared.Certificate.{Certificate}
-use Rattle.cert.specs.declared.Reading.{Reading}
-use Rattle.cert.specs.declared.Reading.TheVariants.{Accepted, Refused as NotRead}
-use Rattle.cert.specs.Model.{read_certificate}
+use Rattle.cert.specs.Model.{read_certificate, Reading}
 use Rattle.machine.specs.World.{world_of}
 use Rattle.dialogue.specs.Log.{What, Turn, answer, word, asked, offered, SaidYes, yeses, EndsWith}
 use Rattle.dialogue.specs.Model.{Path, Outcome, accepted, refused, spent, Tree, done, ask, offer}
 use Rattle.dialogue.specs.Dialogue.{give, turn, follow, talk}
-use Rattle.dialogue.specs.Account.{signatures, extensions, comparisons}
 use Rattle.dialogue.proofs.Answers.{follow_more, talk_more, follow_done}
 use Rattle.dialogue.proofs.Ends.{Room, search_room, along}
 use Rattle.conditions.specs.Request.{Request, Budgets, end_of}
@@ -35,6 +32,7 @@ use Rattle.judge.specs.Decides.{path_of, Decides}
 use Rattle.judge.specs.Accounts.{Accounts}
 use Rattle.judge.specs.Calls.{CallsDecideType, calls_accept_type, SameEnd, EndStaysType, answers_in, JudgeDecidesType}
 use Rattle.judge.proofs.Calls.{other_phase, calls_came}
+use Rattle.std.specs.Prelude.{Ok, Err}
 
 -- ---- logs
 long : (l : List Turn) → length l ≡ asked l + offered l
@@ -173,7 +171,7 @@ module _ (R : Request) (lends : Lends R) (B : Budgets) (said : List ℕ) (r : St
     left : Left B.signatures log r
     offered_so : r.phase ≡ 2 → Offered R log r
 
-  rest_read : (c : Certificate) → read_certificate R.end true ≡ Accepted c → Rest
+  rest_read : (c : Certificate) → read_certificate R.end true ≡ Ok c → Rest
   unfolding world_of
   rest_read c read =
       let e = name_of R.end R.kind R.name in
@@ -186,7 +184,7 @@ module _ (R : Request) (lends : Lends R) (B : Budgets) (said : List ℕ) (r : St
         offered_so = λ h. rw t (offered_at R lends B said r e x.left x.more (follow (search_of R B) said) refl x.room s h);
       }
 
-  rest_unread : (x : ℕ) → read_certificate R.end true ≡ NotRead x → Rest
+  rest_unread : (x : ℕ) → read_certificate R.end true ≡ Err x → Rest
   unfolding asked offered
   rest_unread x e =
       let d = follow_done (refused x) said in
@@ -202,8 +200,8 @@ module _ (R : Request) (lends : Lends R) (B : Budgets) (said : List ℕ) (r : St
   rest = by (read_certificate R.end true) refl
     where
       by : (g : Reading) → read_certificate R.end true ≡ g → Rest
-      by (Accepted c) e = rest_read c e
-      by (NotRead x) e = rest_unread x e
+      by (Ok c) e = rest_read c e
+      by (Err x) e = rest_unread x e
 
   abbrev tree : Tree
   tree = follow (decision R B) said

@@ -11,10 +11,7 @@ use Rattle.der.specs.Places.{Bytes, part}
 use Rattle.extensions.specs.Rfc5280.{sequence, listed}
 use Rattle.cert.specs.Rfc5280.{Skeleton}
 use Rattle.cert.specs.declared.Certificate.{Certificate}
-use Rattle.cert.specs.declared.Reading.{Reading}
-use Rattle.cert.specs.declared.Reading.TheVariants.{Accepted, Refused as NotRead}
-use Rattle.cert.specs.declared.Anchored.TheVariants.{Refused as NoAnchor}
-use Rattle.cert.specs.Model.{read_certificate, anchor_of, read_anchor}
+use Rattle.cert.specs.Model.{read_certificate, anchor_of, read_anchor, Reading}
 use Rattle.cert.specs.Layout.{places}
 use Rattle.cert.proofs.Refusals.{ReadingFair, reading_not, read_fair}
 use Rattle.cert.proofs.Sound.{sound}
@@ -31,14 +28,15 @@ use Rattle.conditions.proofs.Names.{good_named, named_good}
 use Rattle.judge.specs.Steps.{fault_of}
 use Rattle.judge.proofs.Asks.{within}
 use Rattle.judge.specs.Exports.{Encodes, ReadType, ConstraintsTold, unbound, bound, AnchorTold, AnchorType, for_name, NameType}
+use Rattle.std.specs.Prelude.{Ok, Err}
 
 -- ---- `pathjudge_read`
-no_fault : (g : Reading) → ReadingFair g → fault_of g ≡ 0 → (c : Certificate) × (g ≡ Accepted c)
+no_fault : (g : Reading) → ReadingFair g → fault_of g ≡ 0 → (c : Certificate) × (g ≡ Ok c)
 unfolding fault_of
-no_fault (Accepted c) f e = (c, refl)
-no_fault (NotRead x) (reading_not f) e = absurd (omega (arith, f.0))
+no_fault (Ok c) f e = (c, refl)
+no_fault (Err x) (reading_not f) e = absurd (omega (arith, f.0))
 
-encodes : (s : List ℕ) → Bytes s → (strict : Bool) (c : Certificate) → read_certificate s strict ≡ Accepted c → (k : Skeleton) × Encodes strict s k
+encodes : (s : List ℕ) → Bytes s → (strict : Bool) (c : Certificate) → read_certificate s strict ≡ Ok c → (k : Skeleton) × Encodes strict s k
 encodes s b strict c e = let z = sound s b strict c e in (z.k, record { bytes = z.bytes; rules = z.rules })
 
 reads : (s : List ℕ) (k : Skeleton) → Encodes true s k → fault_of (read_certificate s true) ≡ 0
@@ -53,12 +51,12 @@ read_exactly s b r h = (
 )
 
 -- ---- `pathjudge_anchor`
-anchored : (g : Reading) → ReadingFair g → (trusted_of (anchor_of g)).refusal ≡ 0 → (c : Certificate) × (g ≡ Accepted c)
+anchored : (g : Reading) → ReadingFair g → (trusted_of (anchor_of g)).refusal ≡ 0 → (c : Certificate) × (g ≡ Ok c)
 unfolding anchor_of trusted_of
-anchored (Accepted c) f e = (c, refl)
-anchored (NotRead x) (reading_not f) e = absurd (go (eqb x unsupported_cert_version) e)
+anchored (Ok c) f e = (c, refl)
+anchored (Err x) (reading_not f) e = absurd (go (eqb x unsupported_cert_version) e)
   where
-    go : (b : Bool) → (trusted_of (cond b (NoAnchor bad_der) (NoAnchor x))).refusal ≡ 0 → ⊥
+    go : (b : Bool) → (trusted_of (cond b (Err bad_der) (Err x))).refusal ≡ 0 → ⊥
     go true e = omega arith
     go false e = omega (arith, f.0)
 

@@ -10,9 +10,7 @@ use denote.Ref.{Bor}
 use borrow.Author.Tests.{le-ltb, ltb-false, ne_eqb}
 use Rattle.refusal.specs.Refusals.{maximum_path_depth_exceeded}
 use Rattle.cert.specs.declared.Certificate.{Certificate}
-use Rattle.cert.specs.declared.Reading.{Reading}
-use Rattle.cert.specs.declared.Reading.TheVariants.{Accepted, Refused as NoCertificate}
-use Rattle.cert.specs.Model.{read_certificate}
+use Rattle.cert.specs.Model.{read_certificate, Reading}
 use Rattle.asked.specs.Model.{question_in, question_of}
 use Rattle.path.specs.Model.{on_reading}
 use Rattle.table.specs.Model.{reading_in, Held}
@@ -37,6 +35,7 @@ use Rattle.steps.specs.declared.Step.{Step}
 use Rattle.steps.specs.Model.{phase_of, number_of, refusal_of, state_of, step_of, is_found, shown_as, ended_step}
 use Rattle.judge.specs.Steps.{tree_from, At, ran, unread, read, moves_left, Run, Answered as AnsweredStep}
 use Rattle.told.specs.Model.{asked_of}
+use Rattle.std.specs.Prelude.{Ok, Err}
 
 -- ---- a table that is held
 module _ (T I : List (List ℕ)) (E : List ℕ) (h : Held T I E) where
@@ -181,17 +180,17 @@ module _ (R : Request) where
       }
 
   module _ (B : Budgets) where
-    read_decision : (c : Certificate) → read_certificate R.end true ≡ Accepted c → closed naming (search_of R B) ≡ decision R B
+    read_decision : (c : Certificate) → read_certificate R.end true ≡ Ok c → closed naming (search_of R B) ≡ decision R B
     unfolding decision on_reading
     read_decision c e = sym (rw e)
 
-    unread_at : (e : ℕ) → read_certificate R.end true ≡ NoCertificate e → (r : Step) (a b c : ℕ) → r ≡ ended_step e a b c → At R (decision R B) r
+    unread_at : (e : ℕ) → read_certificate R.end true ≡ Err e → (r : Step) (a b c : ℕ) → r ≡ ended_step e a b c → At R (decision R B) r
     unfolding decision on_reading tree_from state_of phase_of phase_tree closed named
     unread_at e q r a b c h = rw (q, h) record { sees = (refl, refl); stands = refl }
 
 -- ---- a whole run
 module _ (R : Request) (B : Budgets) where
-  pub went : (said : List ℕ) (s : State) (r : Step) (c : Certificate) → read_certificate R.end true ≡ Accepted c → (n : ℕ) → n ≡ end_of R
+  pub went : (said : List ℕ) (s : State) (r : Step) (c : Certificate) → read_certificate R.end true ≡ Ok c → (n : ℕ) → n ≡ end_of R
       → Came (world_for R) n B.signatures B.extensions B.comparisons said s → r ≡ shown_as (name_of R.end R.kind R.name) s s.phase → Run R B said r
   unfolding world_of
   went said s r c q n m k e =
@@ -205,7 +204,7 @@ module _ (R : Request) (B : Budgets) where
         few = omega (arith, few_moves (world_for R) _ _ _ _ _ _ _ g.ran, shown_left R s s.phase (naming R) g.deep refl g.halts);
       }
 
-  pub not_read : (said : List ℕ) (e : ℕ) → read_certificate R.end true ≡ NoCertificate e → (r : Step) (a b c : ℕ) → r ≡ ended_step e a b c → Run R B said r
+  pub not_read : (said : List ℕ) (e : ℕ) → read_certificate R.end true ≡ Err e → (r : Step) (a b c : ℕ) → r ≡ ended_step e a b c → Run R B said r
   unfolding decision on_reading state_of phase_of phase_effort
   not_read said e q r a b c h = record {
     at = subst (λ (v : Tree). At R v r) (rw q (sym (follow_done (refused e) said))) (unread_at R B e q r a b c h);

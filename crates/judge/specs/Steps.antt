@@ -1,8 +1,6 @@
 -- What a step is: the state of the search that it holds, the dialogue that is left from it, and what a caller sees in it. Then the contracts of the calls.
-use Rattle.std.specs.Prelude.{ℕ, suc, ◌+◌, ◌*◌, ◌≤◌, ◌≡◌, Bool, true, not, List, [], ◌∷◌, eqb}
-use Rattle.cert.specs.declared.Reading.{Reading}
-use Rattle.cert.specs.declared.Reading.TheVariants.{Accepted, Refused as NoCertificate}
-use Rattle.cert.specs.Model.{read_certificate}
+use Rattle.std.specs.Prelude.{ℕ, suc, ◌+◌, ◌*◌, ◌≤◌, ◌≡◌, Bool, true, not, List, [], ◌∷◌, eqb, Ok, Err}
+use Rattle.cert.specs.Model.{read_certificate, Reading}
 use Rattle.lent.specs.Lent.{pre}
 use Rattle.dialogue.specs.Model.{accepted, refused, spent, Tree, done, ask, offer}
 use Rattle.machine.specs.declared.State.{State}
@@ -62,7 +60,7 @@ pub data Made (R : Request) (s : State) (answers : List ℕ) : Step → ℕ → 
 
 -- the same from the start; no move is made where the end entity cannot be read
 pub data FromStart (R : Request) (B : Budgets) (answers : List ℕ) (r : Step) : ℕ → Type 0 where
-  unread : (e : ℕ) → read_certificate R.end true ≡ NoCertificate e → FromStart R B answers r 0
+  unread : (e : ℕ) → read_certificate R.end true ≡ Err e → FromStart R B answers r 0
   read : {moves : ℕ} → Made R (begun (world_for R) (end_of R) B.signatures B.extensions B.comparisons) answers r moves → FromStart R B answers r moves
 
 -- how many moves can still follow a step, at most
@@ -90,5 +88,5 @@ pub record Answered (R : Request) (s : Step) (a : ℕ) (r : Step) : Type 0 where
 
 -- ---- one certificate by itself
 unfoldable pub fault_of : Reading → ℕ
-fault_of (Accepted c) = 0
-fault_of (NoCertificate e) = e
+fault_of (Ok c) = 0
+fault_of (Err e) = e

@@ -14,7 +14,7 @@ ghost use Rattle.judge.specs.Steps.{request_of, budgets_of, Begun, Answered, Run
 ghost use Rattle.steps.specs.Model.{state_of};
 ghost use Rattle.told.specs.Model.{asked_of, trusted_of};
 
-use cert::Reading;
+use lent::{Anchors, Lent, Policy, Request};
 use steps::Step;
 use told::{Asked, Trusted};
 
@@ -47,28 +47,28 @@ pub extern "C" fn pathjudge_begin<'a>(
 {
     table::fill(table, issuers, end);
     let i = issuers.len();
-    match table::reading(table, i, end) {
-        Reading::Accepted(_) => {
-            let s = search::start(
-                table,
-                issuers,
-                end,
-                subjects,
-                keys,
-                constraints,
-                bound,
-                distrusted,
-                time,
-                purpose,
-                demanded != 0,
-                signatures,
-                extensions,
-                comparisons,
-            );
-            steps::shown(table, i, end, kind, name, s)
-        }
-        Reading::Refused(e) => steps::ended(e, signatures, extensions, comparisons),
+    if let Err(e) = table::reading(table, i, end) {
+        return steps::ended(e, signatures, extensions, comparisons);
     }
+    let request = Request {
+        table,
+        issuers,
+        end,
+        anchors: Anchors {
+            subjects,
+            keys,
+            constraints,
+            bound,
+        },
+        policy: Policy {
+            distrusted,
+            time,
+            purpose,
+            demanded: demanded != 0,
+        },
+    };
+    let s = search::start(&request, signatures, extensions, comparisons);
+    steps::shown(table, i, end, kind, name, s)
 }
 
 // The step after an answer. To a question: 0 yes; 1 the signature is wrong; 2 the algorithm is unknown; 3 it is not for this key; 4 the key
@@ -97,21 +97,24 @@ pub extern "C" fn pathjudge_answer<'a>(
         time purpose.now demanded kind name.now)
         step answer result }
 {
-    let s = search::answer(
+    let request = Request {
         table,
         issuers,
         end,
-        subjects,
-        keys,
-        constraints,
-        bound,
-        distrusted,
-        time,
-        purpose,
-        demanded != 0,
-        steps::state_of(step),
-        answer,
-    );
+        anchors: Anchors {
+            subjects,
+            keys,
+            constraints,
+            bound,
+        },
+        policy: Policy {
+            distrusted,
+            time,
+            purpose,
+            demanded: demanded != 0,
+        },
+    };
+    let s = search::answer(&request, steps::state_of(step), answer);
     steps::shown(table, issuers.len(), end, kind, name, s)
 }
 
@@ -143,29 +146,28 @@ pub extern "C" fn pathjudge_judge<'a>(
 {
     table::fill(table, issuers, end);
     let count = issuers.len();
-    match table::reading(table, count, end) {
-        Reading::Accepted(_) => {
-            let s = runs::run(
-                table,
-                issuers,
-                end,
-                subjects,
-                keys,
-                constraints,
-                bound,
-                distrusted,
-                time,
-                purpose,
-                demanded != 0,
-                signatures,
-                extensions,
-                comparisons,
-                answers,
-            );
-            steps::shown(table, count, end, kind, name, s)
-        }
-        Reading::Refused(e) => steps::ended(e, signatures, extensions, comparisons),
+    if let Err(e) = table::reading(table, count, end) {
+        return steps::ended(e, signatures, extensions, comparisons);
     }
+    let request = Request {
+        table,
+        issuers,
+        end,
+        anchors: Anchors {
+            subjects,
+            keys,
+            constraints,
+            bound,
+        },
+        policy: Policy {
+            distrusted,
+            time,
+            purpose,
+            demanded: demanded != 0,
+        },
+    };
+    let s = runs::run(&request, signatures, extensions, comparisons, answers);
+    steps::shown(table, count, end, kind, name, s)
 }
 
 // What the question of a step is about. `anchors` is how many anchors there are.
@@ -183,26 +185,25 @@ pub extern "C" fn pathjudge_question<'a>(
         (question_of (map (λ x. x.now) issuers.now) end.now (map (λ x. x.now) keys.now) anchors (key_at (state_of step))
         (cert_at (state_of step))) }
 {
-    let numbers = machine::asked(steps::state_of(step));
-    told::question(
+    let lent = Lent {
         table,
         issuers,
         end,
-        keys,
         anchors,
-        numbers.key,
-        numbers.certificate,
-    )
+    };
+    let numbers = machine::asked(steps::state_of(step));
+    told::question(&lent, keys, numbers.key, numbers.certificate)
 }
 
 // 0, or why the bytes are no certificate.
 #[unsafe(no_mangle)]
+#[tactic(auto, unfolding(crate::specs::Steps::fault_of))]
 pub extern "C" fn pathjudge_read(certificate: &[u8]) -> u16
     ensures { result ≡ fault_of (read_certificate certificate.now true) }
 {
     match cert::read(certificate, true) {
-        Reading::Accepted(_) => 0,
-        Reading::Refused(e) => e,
+        Ok(_) => 0,
+        Err(e) => e.number(),
     }
 }
 
@@ -219,5 +220,8 @@ pub extern "C" fn pathjudge_anchor(certificate: &[u8]) -> Trusted
 pub extern "C" fn pathjudge_name(end: &[u8], kind: u8, name: &[u8]) -> u16
     ensures { result ≡ name_of end.now kind name.now }
 {
-    wanted::refusal_for(cert::read(end, true), end, kind, name)
+    match wanted::refusal_for(cert::read(end, true), end, kind, name) {
+        Ok(()) => 0,
+        Err(e) => e.number(),
+    }
 }

@@ -10,13 +10,13 @@ use native.Mathlib.Omega.{arith}
 use borrow.Author.Tests.{eqb-true, eqb-false, leb-true, leb-false, lt-ltb, le-ltb, le-leb, lt-leb, ne_eqb}
 use Rattle.der.proofs.Laws.{lt_or_le}
 use Rattle.labels.specs.declared.Label.{Label}
-use Rattle.labels.specs.declared.Taken.TheVariants.{Next, Bad}
 use Rattle.texts.specs.Bytes.{dot}
 use Rattle.labels.specs.Names.{Labels, hyphen, digit, letter, label_byte, every, last_of, longer, labels, good_label, host_name, capital, none, starred, relative, wanted_name, presented_name, entry_name}
 use Rattle.texts.specs.Model.{relative_text, from_dot, begins}
 use Rattle.labels.specs.Model.{whole, fresh, grown, take_byte, on_taken, host_from, host_text, valid_starred, valid_presented, valid_wanted, valid_entry}
 use lib.Seq.{take-length, take-suc, take-append_seam}
 use Rattle.labels.proofs.Labels.{every_snoc, every_front, last_snoc, Cut, cut, joined, joined_longer, labels_nil, labels_dot, labels_more, cut_more, labels_append, last_some}
+use Rattle.std.specs.Prelude.{Some, None}
 
 -- the label so far, as it is kept: nothing in it is bad, but it may be empty or end in a hyphen
 record Kept (pre : List ℕ) (l : Label) : Type 0 where
@@ -29,8 +29,8 @@ record Kept (pre : List ℕ) (l : Label) : Type 0 where
 
 -- one byte more: it is kept, or no label begins so
 data Step (pre : List ℕ) (l : Label) (b : ℕ) : Type 0 where
-  keeps : (l' : Label) → take_byte l b ≡ Next l' → Kept (pre ++ (b ∷ [])) l' → Step pre l b
-  breaks : take_byte l b ≡ Bad → ((m : List ℕ) → good_label ((pre ++ (b ∷ [])) ++ m) ≡ false) → Step pre l b
+  keeps : (l' : Label) → take_byte l b ≡ Some l' → Kept (pre ++ (b ∷ [])) l' → Step pre l b
+  breaks : take_byte l b ≡ None → ((m : List ℕ) → good_label ((pre ++ (b ∷ [])) ++ m) ≡ false) → Step pre l b
 
 -- a label is bad by its length, by a byte or by its first byte
 too_long : (l : List ℕ) → 63 < length l → good_label l ≡ false
@@ -86,12 +86,12 @@ keep pre l b h d k s g f e m = record {
 
 -- ---- what taking a byte does, case by case
 module _ (l : Label) (b : ℕ) (no_dot : eqb b 46 ≡ false) where
-  take_long : leb 63 l.size ≡ true → take_byte l b ≡ Bad
+  take_long : leb 63 l.size ≡ true → take_byte l b ≡ None
   unfolding take_byte
   take_long s = search (no_dot, s)
 
   module _ (fits : leb 63 l.size ≡ false) where
-    take_lone : eqb b 45 ≡ true → eqb l.size 0 ≡ true → take_byte l b ≡ Bad
+    take_lone : eqb b 45 ≡ true → eqb l.size 0 ≡ true → take_byte l b ≡ None
     unfolding take_byte
     take_lone h z = search (no_dot, fits, h, z)
 
@@ -111,7 +111,7 @@ module _ (l : Label) (b : ℕ) (no_dot : eqb b 46 ≡ false) where
     unfolding take_byte
     take_underscore h d a u = search (no_dot, fits, h, d, a, u)
 
-    take_other : eqb b 45 ≡ false → digit b ≡ false → letter b ≡ false → eqb b 95 ≡ false → take_byte l b ≡ Bad
+    take_other : eqb b 45 ≡ false → digit b ≡ false → letter b ≡ false → eqb b 95 ≡ false → take_byte l b ≡ None
     unfolding take_byte
     take_other h d a u = search (no_dot, fits, h, d, a, u)
 
@@ -208,11 +208,11 @@ dot_taken b bs l e = go (whole l) refl
     go true w = rw (e, w)
     go false w = rw (e, w)
 
-taken_next : (b : ℕ) (bs : List ℕ) (l l' : Label) → take_byte l b ≡ Next l' → host_from (b ∷ bs) l ≡ host_from bs l'
+taken_next : (b : ℕ) (bs : List ℕ) (l l' : Label) → take_byte l b ≡ Some l' → host_from (b ∷ bs) l ≡ host_from bs l'
 unfolding host_from on_taken
 taken_next b bs l l' e = rw e
 
-taken_bad : (b : ℕ) (bs : List ℕ) (l : Label) → take_byte l b ≡ Bad → host_from (b ∷ bs) l ≡ false
+taken_bad : (b : ℕ) (bs : List ℕ) (l : Label) → take_byte l b ≡ None → host_from (b ∷ bs) l ≡ false
 unfolding host_from on_taken
 taken_bad b bs l e = rw e
 

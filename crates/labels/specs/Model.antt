@@ -1,9 +1,7 @@
 -- What the code answers, as functions of the bytes: the same tests in the same order.
-use Rattle.std.specs.Prelude.{ℕ, ◌+◌, List, [], ◌∷◌, Bool, true, false, cond, length, drop, ltb, leb, eqb}
+use Rattle.std.specs.Prelude.{ℕ, ◌+◌, List, [], ◌∷◌, Bool, true, false, cond, length, drop, ltb, leb, eqb, Some, None, Option}
 use Rattle.texts.specs.Model.{begins, relative_text, from_dot}
 use Rattle.labels.specs.declared.Label.{Label}
-use Rattle.labels.specs.declared.Taken.{Taken}
-use Rattle.labels.specs.declared.Taken.TheVariants.{Next, Bad}
 use Rattle.texts.specs.Bytes.{dot}
 use Rattle.labels.specs.Names.{star, hyphen, underscore, longest_label, longest_name, digit, letter}
 
@@ -15,25 +13,25 @@ abbrev pub fresh : Label
 fresh = record { size = 0; hyphen = false; digits = true }
 
 -- one byte more than l
-abbrev pub grown : Label → Bool → Bool → Taken
-grown l h d = Next (record { size = l.size + 1; hyphen = h; digits = d })
+abbrev pub grown : Label → Bool → Bool → Option Label
+grown l h d = Some (record { size = l.size + 1; hyphen = h; digits = d })
 
-unfoldable pub take_byte : Label → ℕ → Taken
+unfoldable pub take_byte : Label → ℕ → Option Label
 take_byte l b =
     cond (eqb b dot)
-    (cond (whole l) (Next fresh) Bad)
+    (cond (whole l) (Some fresh) None)
     (cond (leb longest_label l.size)
-    Bad
+    None
     (cond (eqb b hyphen)
-    (cond (eqb l.size 0) Bad (grown l true false))
+    (cond (eqb l.size 0) None (grown l true false))
     (cond (digit b)
     (grown l false l.digits)
-    (cond (letter b) (grown l false false) (cond (eqb b underscore) (grown l false false) Bad)))))
+    (cond (letter b) (grown l false false) (cond (eqb b underscore) (grown l false false) None)))))
 
 -- go on with the label, or not
-unfoldable pub on_taken : Taken → (Label → Bool) → Bool
-on_taken (Next l) k = k l
-on_taken Bad k = false
+unfoldable pub on_taken : Option Label → (Label → Bool) → Bool
+on_taken (Some l) k = k l
+on_taken None k = false
 
 unfoldable pub host_from : List ℕ → Label → Bool
 host_from [] l = cond l.digits false (whole l)

@@ -2,7 +2,6 @@
 #![tactic(auto)]
 
 ghost use Rattle.std.specs.Prelude.{◌≡◌};
-ghost use Rattle.labels.specs.Names.{digit, letter};
 ghost use Rattle.labels.specs.Model.{whole, take_byte, host_text, valid_presented, valid_wanted, valid_entry};
 
 // The most bytes of a name's text: RFC 1034, 3.1, without the length byte of the first label and the root's.
@@ -18,144 +17,79 @@ struct Label {
     digits: bool,
 }
 
-#[derive(Clone, Copy)]
-enum Taken {
-    Next(Label),
-    Bad,
-}
-
-fn is_digit(b: u8) -> bool
-    ensures { result ≡ digit b }
-{
-    if b < b'0' {
-        return false;
-    }
-    b <= b'9'
-}
-
-fn is_letter(b: u8) -> bool
-    ensures { result ≡ letter b }
-{
-    if b < b'A' {
-        return false;
-    }
-    if b < b'a' {
-        return b <= b'Z';
-    }
-    b <= b'z'
-}
+const FRESH: Label = Label {
+    size: 0,
+    hyphen: false,
+    digits: true,
+};
 
 // Whether a label may end here.
 fn whole(l: Label) -> bool
     ensures { result ≡ whole l }
 {
-    let size = l.size;
-    if size == 0 {
-        return false;
-    }
-    if l.hyphen {
-        return false;
-    }
-    true
+    l.size != 0 && !l.hyphen
 }
 
-// One more byte of a name.
-fn take_byte(l: Label, b: u8) -> Taken
+// The label with one more byte of the name, if that may follow.
+#[tactic(auto, unfolding(crate::specs::Model::take_byte, crate::specs::Names::digit, crate::specs::Names::letter, crate::specs::Names::capital))]
+fn take_byte(l: Label, b: u8) -> Option<Label>
     ensures { result ≡ take_byte l b }
 {
     if b == b'.' {
-        if whole(l) {
-            return Taken::Next(Label {
-                size: 0,
-                hyphen: false,
-                digits: true,
-            });
-        }
-        return Taken::Bad;
+        return if whole(l) { Some(FRESH) } else { None };
     }
-    let size = l.size;
-    if LONGEST_LABEL <= size {
-        return Taken::Bad;
+    if l.size >= LONGEST_LABEL {
+        return None;
     }
-    if b == b'-' {
-        if size == 0 {
-            return Taken::Bad;
-        }
-        return Taken::Next(Label {
-            size: size + 1,
+    let size = l.size + 1;
+    match b {
+        b'-' if l.size > 0 => Some(Label {
+            size,
             hyphen: true,
             digits: false,
-        });
-    }
-    let digits = l.digits;
-    if is_digit(b) {
-        return Taken::Next(Label {
-            size: size + 1,
+        }),
+        b'0'..=b'9' => Some(Label {
+            size,
             hyphen: false,
-            digits,
-        });
-    }
-    if is_letter(b) {
-        return Taken::Next(Label {
-            size: size + 1,
+            digits: l.digits,
+        }),
+        b'A'..=b'Z' | b'a'..=b'z' | b'_' => Some(Label {
+            size,
             hyphen: false,
             digits: false,
-        });
+        }),
+        _ => None,
     }
-    if b == b'_' {
-        return Taken::Next(Label {
-            size: size + 1,
-            hyphen: false,
-            digits: false,
-        });
-    }
-    Taken::Bad
 }
 
 // Whether a text is one or more labels with a dot between each two, the last not all digits.
 fn host(h: &[u8]) -> bool
     ensures { result ≡ host_text h.now }
 {
-    let mut label = Label {
-        size: 0,
-        hyphen: false,
-        digits: true,
-    };
-    let mut i: usize = 0;
-    while i < h.len() {
-        match take_byte(label, h[i]) {
-            Taken::Next(next) => {
-                label = next;
-                i += 1;
-            }
-            Taken::Bad => {
-                return false;
-            }
-        }
+    let mut label = FRESH;
+    for b in h {
+        let Some(next) = take_byte(label, *b) else {
+            return false;
+        };
+        label = next;
     }
-    if label.digits {
-        return false;
-    }
-    whole(label)
+    !label.digits && whole(label)
 }
 
 // Whether a text is a name that a certificate may present.
 pub fn valid_presented(h: &[u8]) -> bool
     ensures { result ≡ valid_presented h.now }
 {
-    if LONGEST_NAME < h.len() {
+    if h.len() > LONGEST_NAME {
         return false;
     }
     if texts::begins(h, b'*') {
         let tail = texts::rest(h);
-        if texts::begins(tail, b'.') {
-            let name = texts::rest(tail);
-            if texts::from_dot(name).len() == 0 {
-                return false;
-            }
-            return host(name);
+        if !texts::begins(tail, b'.') {
+            return false;
         }
-        return false;
+        let name = texts::rest(tail);
+        return !texts::from_dot(name).is_empty() && host(name);
     }
     host(h)
 }
@@ -164,7 +98,7 @@ pub fn valid_presented(h: &[u8]) -> bool
 pub fn valid_wanted(h: &[u8]) -> bool
     ensures { result ≡ valid_wanted h.now }
 {
-    if LONGEST_NAME < h.len() {
+    if h.len() > LONGEST_NAME {
         return false;
     }
     host(texts::relative(h))
@@ -174,10 +108,10 @@ pub fn valid_wanted(h: &[u8]) -> bool
 pub fn valid_entry(h: &[u8]) -> bool
     ensures { result ≡ valid_entry h.now }
 {
-    if LONGEST_NAME < h.len() {
+    if h.len() > LONGEST_NAME {
         return false;
     }
-    if h.len() == 0 {
+    if h.is_empty() {
         return true;
     }
     if texts::begins(h, b'.') {

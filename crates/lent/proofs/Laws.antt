@@ -1,10 +1,12 @@
 -- Laws of the lent lists and of paths kept in arrays. Assumes nothing.
 use Prim.Native.Nat.{ℕ, zero, suc, ◌+◌, ◌-◌, ◌≤◌, ◌<◌}
 use mathlib.Core.Path.{◌≡◌, refl, sym, ap, ◌∙◌, fun_ext}
-use mathlib.Core.List.{List, [], ◌∷◌, map}
-use mathlib.Core.Bool.{Bool, true, false, cond}
-use lib.ListN.{length, get_or, drop, length-map, drop_of_length-le, get_or-eq_default}
-use lib.Seq.{drop-cons}
+use mathlib.Core.List.{List, [], ◌∷◌, map, reverse}
+use Rattle.std.proofs.Math.Seq.{take-suc}
+use Rattle.std.proofs.lemmas.List.{reverse-append}
+use mathlib.Core.Bool.{Bool, true, false, cond, ◌||◌}
+use Rattle.std.specs.List.{list_any}
+use lib.ListN.{length, get_or, get_or-map, get_or-eq_default, take}
 use native.Mathlib.Omega.{arith}
 use native.Mathlib.Numerals.{add-one}
 use lib.Dec.{ltb}
@@ -12,22 +14,18 @@ use borrow.Author.Tests.{ltb-true, ltb-false, lt-ltb, le-ltb, lt-leb}
 use denote.Ref.{Bor}
 use Rattle.parts.specs.Model.{same_parts}
 use Rattle.table.specs.Model.{reading_in, Held}
-use Rattle.table.proofs.Laws.{behind, held_reading}
+use Rattle.table.proofs.Laws.{held_reading}
 use Rattle.lent.specs.Lent.{certificate_of, readings_of, row_at, readings_in, lower, pre, some_of, listed}
 
 -- ---- a certificate by its number
-module _ (issuers : List (Bor (List ℕ))) (end : List ℕ) (anchors n : ℕ) where
-  pub certificate_none : n < anchors → certificate_of (map (λ x. x.now) issuers) end anchors n ≡ end
+module _ (issuers : List (Bor (List ℕ))) (end : Bor (List ℕ)) (anchors n : ℕ) where
+  pub certificate_none : n < anchors → certificate_of (map (λ x. x.now) issuers) end.now anchors n ≡ end.now
   unfolding certificate_of
   certificate_none h = rw (lt-ltb n anchors h)
 
-  pub certificate_there : (d : Bor (List ℕ)) → anchors ≤ n → n - anchors < length issuers → certificate_of (map (λ x. x.now) issuers) end anchors n ≡ (get_or issuers (n - anchors) d).now
+  pub certificate_there : anchors ≤ n → certificate_of (map (λ x. x.now) issuers) end.now anchors n ≡ (get_or issuers (n - anchors) end).now
   unfolding certificate_of
-  certificate_there d h l = rw (le-ltb n anchors h, behind issuers (n - anchors) d end l)
-
-  pub certificate_end : anchors ≤ n → length issuers ≤ n - anchors → certificate_of (map (λ x. x.now) issuers) end anchors n ≡ end
-  unfolding certificate_of
-  certificate_end h l = rw (le-ltb n anchors h) (get_or-eq_default (map (λ x. x.now) issuers) end (rw (length-map issuers (λ x. x.now)) l))
+  certificate_there h = rw (le-ltb n anchors h) (get_or-map (λ x. x.now) issuers (n - anchors) end)
 
 -- ---- a table of readings
 module _ (table issuers : List (List ℕ)) (end : List ℕ) (anchors n : ℕ) where
@@ -69,38 +67,36 @@ rows_alone table issuers others end other anchors n same all =
 pub held_readings : (table issuers : List (List ℕ)) (end : List ℕ) (anchors : ℕ) → Held table issuers end → readings_in table issuers end anchors ≡ readings_of issuers end anchors
 held_readings table issuers end anchors h = fun_ext (λ n. held_readings_at table issuers end anchors n h)
 
--- ---- a loop over a list of keys
-module _ (keys : List (Bor (List ℕ))) (s : List ℕ) (from to : ℕ) where
-  -- what is left of the keys from i on has the whole list's answer
-  abbrev pub Left : ℕ → Type 0
-  Left i = listed (drop i (map (λ x. x.now) keys)) s from to ≡ listed (map (λ x. x.now) keys) s from to
+-- ---- a list of keys
+either_way : (b c : Bool) → (b || c) ≡ cond b true c
+either_way true c = refl
+either_way false c = refl
 
-  front : (i : ℕ) (d : Bor (List ℕ)) → i < length keys → drop i (map (λ x. x.now) keys) ≡ (get_or keys i d).now ∷ drop (i + 1) (map (λ x. x.now) keys)
-  front i d h =
-      let l : i < length (map (λ x. x.now) keys) = rw (length-map keys (λ x. x.now)) h in
-      rw (add-one, drop-cons (map (λ x. x.now) keys) i [] l, behind keys i d [] h)
-
-  pub listed_turn : (i : ℕ) (d : Bor (List ℕ)) → i < length keys → same_parts s from to (get_or keys i d).now 0 (length (get_or keys i d).now) ≡ false → Left i → Left (i + 1)
+module _ (s : List ℕ) (from to : ℕ) where
+  pub listed_any : (keys : List (Bor (List ℕ))) → list_any (λ k. same_parts s from to k.now 0 (length k.now)) keys ≡ listed (map (λ x. x.now) keys) s from to
   unfolding listed
-  listed_turn i d h e k =
-      let f : listed ((get_or keys i d).now ∷ drop (i + 1) (map (λ x. x.now) keys)) s from to ≡ listed (map (λ x. x.now) keys) s from to = rw (front i d h) at k in
-      rw e at f
-
-  pub listed_found : (i : ℕ) (d : Bor (List ℕ)) → i < length keys → same_parts s from to (get_or keys i d).now 0 (length (get_or keys i d).now) ≡ true → Left i → true ≡ listed (map (λ x. x.now) keys) s from to
-  unfolding listed
-  listed_found i d h e k =
-      let f : listed ((get_or keys i d).now ∷ drop (i + 1) (map (λ x. x.now) keys)) s from to ≡ listed (map (λ x. x.now) keys) s from to = rw (front i d h) at k in
-      rw e at f
-
-  pub listed_end : (i : ℕ) → length keys ≤ i → Left i → false ≡ listed (map (λ x. x.now) keys) s from to
-  unfolding listed
-  listed_end i h k = rw (drop_of_length-le (map (λ x. x.now) keys) {i = i} (rw (length-map keys (λ x. x.now)) h)) at k
+  listed_any [] = refl
+  listed_any (k ∷ ks) = either_way (same_parts s from to k.now 0 (length k.now)) _ ∙ ap (cond (same_parts s from to k.now 0 (length k.now)) true) (listed_any ks)
 
 -- ---- a path in an array
 pub lower_length : (path : List ℕ) (d : ℕ) → length (lower path d) ≡ d
 unfolding lower
 lower_length path zero = refl
 lower_length path (suc d) = ap suc (lower_length path d)
+
+-- some of the numbers below place k, the newest first
+some_below : (f : ℕ → Bool) (path : List ℕ) (k : ℕ) → k ≤ length path → list_any f (reverse (take k path)) ≡ some_of f (lower path k)
+unfolding some_of lower
+some_below f path zero h = refl
+some_below f path (suc k) h =
+    let l : k < length path = omega arith in
+    let e = either_way (f (get_or path k 0)) _ ∙ ap (cond (f (get_or path k 0)) true) (some_below f path k (omega arith)) in
+    rw (take-suc path k 0 l, reverse-append) e
+
+-- the same of a whole path
+pub some_upward : (f : ℕ → Bool) (path : List ℕ) (d : ℕ) → d < length path → list_any f (reverse (take (d + 1) path)) ≡ some_of f (pre path d)
+unfolding lower
+some_upward f path d h = rw add-one (some_below f path (suc d) (omega arith))
 
 -- ---- a loop from the newest certificate of a path down to the end entity
 module _ (f : ℕ → Bool) (path : List ℕ) (depth : ℕ) where

@@ -1,9 +1,11 @@
 -- What a request lends, by number, and paths of such numbers. A path is a list, the newest first, the end entity last.
-use Rattle.std.specs.Prelude.{ℕ, zero, suc, ◌-◌, List, [], ◌∷◌, Bool, true, false, cond, length, get_or, ltb}
+use Rattle.std.specs.Prelude.{ℕ, zero, suc, ◌-◌, List, [], ◌∷◌, Bool, true, false, cond, length, get_or, ltb, map}
 use Rattle.parts.specs.Model.{same_parts}
-use Rattle.cert.specs.declared.Reading.{Reading}
-use Rattle.cert.specs.Model.{read_certificate}
+use Rattle.cert.specs.Model.{read_certificate, Reading}
 use Rattle.table.specs.Model.{reading_in}
+use Rattle.lent.specs.declared.Lent.{Lent}
+use Rattle.lent.specs.declared.Request.{Request}
+use Rattle.std.specs.Borrow.{Bor}
 
 -- as many intermediates may stand between the end entity and the anchor
 abbrev pub most_intermediates : ℕ
@@ -46,3 +48,20 @@ newest (n ∷ ns) = n
 unfoldable pub listed : List (List ℕ) → List ℕ → ℕ → ℕ → Bool
 listed [] s from to = false
 listed (k ∷ ks) s from to = cond (same_parts s from to k 0 (length k)) true (listed ks s from to)
+
+-- ---- the same of what is lent
+-- what the references of a list point to
+abbrev pub each_now : List (Bor (List ℕ)) → List (List ℕ)
+each_now xs = map (λ x. x.now) xs
+
+-- the bytes of the certificate with a number
+abbrev pub certificates : Lent → ℕ → List ℕ
+certificates l = certificate_of (each_now l.issuers.now) l.end.now l.anchors
+
+-- what the table says of it
+abbrev pub readings : Lent → ℕ → Reading
+readings l = readings_in l.table.now (each_now l.issuers.now) l.end.now l.anchors
+
+-- what a request lends: there are as many anchors as subjects
+abbrev pub lent_of : Request → Lent
+lent_of r = record { table = r.table; issuers = r.issuers; end = r.end; anchors = length r.anchors.subjects.now }

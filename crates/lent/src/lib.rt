@@ -2,34 +2,96 @@
 // The candidates have one numbering: the anchors, then the intermediates; every other number is the end entity's.
 #![tactic(auto)]
 
-ghost use Rattle.std.specs.Prelude.{◌≡◌, map, get_or};
+ghost use Rattle.std.specs.Prelude.{◌≡◌, get_or};
 ghost use Rattle.rows.specs.Model.{outlined};
-ghost use Rattle.lent.specs.Lent.{certificate_of, row_at, readings_in, listed};
+ghost use Rattle.lent.specs.Lent.{row_at, listed, each_now, certificates, readings, lent_of};
 
 use cert::Reading;
-use rows::Outlined;
+use refusal::Refusal;
+use rows::Outline;
 
 // As many intermediates may stand between the end entity and the anchor.
 pub const MOST_INTERMEDIATES: usize = 6;
 
-// The bytes of the certificate that has a number.
-pub fn certificate<'a>(
-    issuers: &[&'a [u8]],
-    end: &'a [u8],
-    anchors: usize,
-    number: usize,
-) -> &'a [u8]
-    ensures { result.now ≡ certificate_of (map (λ x. x.now) issuers.now) end.now anchors number }
-{
-    if number < anchors {
-        return end;
+// The certificates of a request by number, and what was read of them. `anchors` is how many numbers come before the intermediates.
+#[derive(Clone, Copy)]
+pub struct Lent<'a> {
+    pub table: &'a [[usize; 37]],
+    pub issuers: &'a [&'a [u8]],
+    pub end: &'a [u8],
+    pub anchors: usize,
+}
+
+// The anchors, in rows beside each other as C lends them. `bound` has their flags: not 0 where an anchor has name constraints.
+#[derive(Clone, Copy)]
+pub struct Anchors<'a> {
+    pub subjects: &'a [&'a [u8]],
+    pub keys: &'a [&'a [u8]],
+    pub constraints: &'a [&'a [u8]],
+    pub bound: &'a [u8],
+}
+
+// What each certificate is checked against. `purpose` is an object identifier, and `demanded` says that a certificate must list it.
+#[derive(Clone, Copy)]
+pub struct Policy<'a> {
+    pub distrusted: &'a [&'a [u8]],
+    pub time: u64,
+    pub purpose: &'a [u8],
+    pub demanded: bool,
+}
+
+#[derive(Clone, Copy)]
+pub struct Request<'a> {
+    pub table: &'a [[usize; 37]],
+    pub issuers: &'a [&'a [u8]],
+    pub end: &'a [u8],
+    pub anchors: Anchors<'a>,
+    pub policy: Policy<'a>,
+}
+
+impl<'a> Request<'a> {
+    // The certificates: there are as many anchors as subjects.
+    pub fn lent(&self) -> Lent<'a>
+        ensures { result ≡ lent_of self.now }
+    {
+        Lent {
+            table: self.table,
+            issuers: self.issuers,
+            end: self.end,
+            anchors: self.anchors.subjects.len(),
+        }
     }
-    let i = number - anchors;
-    if i < issuers.len() {
-        let t = issuers[i];
-        return t;
+}
+
+impl<'a> Lent<'a> {
+    // The bytes of the certificate that has a number.
+    pub fn certificate(&self, number: usize) -> &'a [u8]
+        ensures { result.now ≡ certificates self.now number }
+    {
+        if number < self.anchors {
+            return self.end;
+        }
+        self.issuers
+            .get(number - self.anchors)
+            .copied()
+            .unwrap_or(self.end)
     }
-    end
+
+    // What is known of it.
+    pub fn reading(&self, number: usize) -> Reading
+        ensures { result ≡ readings self.now number }
+    {
+        let row = row_at(self.anchors, self.issuers.len(), number);
+        table::reading(self.table, row, self.certificate(number))
+    }
+
+    // The outline of it.
+    pub fn outline(&self, number: usize) -> Result<Outline, Refusal>
+        ensures { result ≡ outlined (readings self.now number) }
+    {
+        let row = row_at(self.anchors, self.issuers.len(), number);
+        table::outline_at(self.table, row, self.certificate(number))
+    }
 }
 
 // The row of a number in a table of readings: the place among the intermediates, or the one after them.
@@ -39,64 +101,21 @@ fn row_at(anchors: usize, count: usize, number: usize) -> usize
     if number < anchors {
         return count;
     }
-    let i = number - anchors;
-    if i < count {
-        return i;
-    }
-    count
-}
-
-// What is known of the certificate that has a number.
-pub fn reading<'a>(
-    table: &[[usize; 37]],
-    issuers: &[&'a [u8]],
-    end: &'a [u8],
-    anchors: usize,
-    number: usize,
-) -> Reading
-    ensures { result ≡ readings_in table.now (map (λ x. x.now) issuers.now) end.now anchors number }
-{
-    let s = certificate(issuers, end, anchors, number);
-    let i = row_at(anchors, issuers.len(), number);
-    table::reading(table, i, s)
-}
-
-// The outline of it.
-pub fn outline<'a>(
-    table: &[[usize; 37]],
-    issuers: &[&'a [u8]],
-    end: &'a [u8],
-    anchors: usize,
-    number: usize,
-) -> Outlined
-    ensures { result ≡ outlined (readings_in table.now (map (λ x. x.now) issuers.now) end.now anchors number) }
-{
-    let s = certificate(issuers, end, anchors, number);
-    let i = row_at(anchors, issuers.len(), number);
-    table::outline_at(table, i, s)
+    count.min(number - anchors)
 }
 
 // The number at a place of a path.
 pub fn number_at(path: [usize; 7], k: usize) -> usize
     ensures { result ≡ get_or path k 0 }
 {
-    if k < 7 {
-        return path[k];
-    }
-    0
+    path.get(k).copied().unwrap_or(0)
 }
 
 // Whether the bytes between the places are one of the distrusted keys.
 pub fn is_distrusted(distrusted: &[&[u8]], s: &[u8], from: usize, to: usize) -> bool
-    ensures { result ≡ listed (map (λ x. x.now) distrusted.now) s.now from to }
+    ensures { result ≡ listed (each_now distrusted.now) s.now from to }
 {
-    let mut i: usize = 0;
-    while i < distrusted.len() {
-        let t = distrusted[i];
-        if parts::same(s, from, to, t, 0, t.len()) {
-            return true;
-        }
-        i += 1;
-    }
-    false
+    distrusted
+        .iter()
+        .any(|key| parts::same(s, from, to, key, 0, key.len()))
 }

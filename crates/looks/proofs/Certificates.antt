@@ -8,7 +8,6 @@ use lib.Dec.{eqb}
 use native.Mathlib.Omega.{arith}
 use Rattle.refusal.specs.Refusals.{bad_der, trailing_signed_data, unsupported_cert_version}
 use Rattle.der.specs.declared.Span.{Span}
-use Rattle.der.specs.declared.Got.TheVariants.{Content}
 use Rattle.der.specs.Model.{on_content}
 use Rattle.parts.specs.Model.{same_parts}
 use Rattle.bits.specs.Model.{bits_at}
@@ -21,6 +20,7 @@ use Rattle.looks.specs.Certificates.{parts_looks, opened_looks, version_looks, b
 use Rattle.looks.proofs.Der.{value_few, same_few, expect_cost, content_then, expect_then, test_then}
 use Rattle.looks.proofs.Values.{small_for_six, bits_few, bits_wide}
 use Rattle.looks.proofs.Extensions.{extensions_few}
+use Rattle.std.specs.Prelude.{Ok}
 
 -- ---- the outer SEQUENCE
 -- what may be looked at in the signed content and in the algorithm beside it
@@ -60,7 +60,7 @@ record VersionFor (s : List ℕ) (from to : ℕ) (p : Span) : Type 0 where
   pub ordered : from ≤ p.end
   pub inside : p.end ≤ to
 
-version_cost : (s : List ℕ) (from to : ℕ) (p : Span) → version_at s from to ≡ Content p → VersionFor s from to p
+version_cost : (s : List ℕ) (from to : ℕ) (p : Span) → version_at s from to ≡ Ok p → VersionFor s from to p
 unfolding version_looks on_content
 version_cost s from to p e =
     let i = version_inv s from to p e in

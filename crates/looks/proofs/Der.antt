@@ -8,17 +8,15 @@ use lib.ListN.{length, get_or}
 use lib.Dec.{ltb, leb, eqb}
 use native.Mathlib.Omega.{arith}
 use borrow.Author.Tests.{ltb-true, ltb-false, leb-false, eqb-true}
-use Rattle.der.specs.declared.Length.TheVariants.{Is}
 use Rattle.der.specs.declared.Span.{Span}
-use Rattle.der.specs.declared.Got.{Got}
-use Rattle.der.specs.declared.Got.TheVariants.{Content, Refused as NoContent}
 use Rattle.der.specs.Places.{part}
-use Rattle.der.specs.Model.{high_tag, read_length, read_value, expect_at, on_content}
+use Rattle.der.specs.Model.{high_tag, read_length, read_value, expect_at, on_content, length_is}
 use Rattle.der.specs.Loop.{run, walk}
 use Rattle.looks.specs.Der.{nothing, long_looks, first_looks, length_looks, value_looks, pair_looks, same_looks}
 use Rattle.der.proofs.Laws.{expect_value}
 use Rattle.der.proofs.Invert.{length_inv, value_inv}
 use Rattle.der.proofs.Parts.{part_length}
+use Rattle.std.specs.Prelude.{Ok, Err, Result}
 
 -- a choice between two numbers is no more than m if either is not
 pub at_most : (b : Bool) {x y m : ℕ} → (b ≡ true → x ≤ m) → (b ≡ false → y ≤ m) → cond b x y ≤ m
@@ -50,7 +48,7 @@ length_few s at to =
     )
 
 -- a length that is read costs the bytes up to the place after it
-length_cost : (s : List ℕ) (at to len next : ℕ) → read_length s at to ≡ Is len next → length_looks s at to ≤ next - at
+length_cost : (s : List ℕ) (at to len next : ℕ) → read_length s at to ≡ length_is len next → length_looks s at to ≤ next - at
 length_cost s at to len next e =
     let l = length_few s at to in
     ⊎_elim (λ h. omega arith) (λ h. omega (arith, h.1.first, h.1.after)) (length_inv s at to len next e).form
@@ -82,7 +80,7 @@ pub record Headed (s : List ℕ) (from to start end : ℕ) : Type 0 where
   pub ordered : start ≤ end
   pub inside : end ≤ to
 
-pub expect_cost : (s : List ℕ) (from to tag refusal : ℕ) (p : Span) → expect_at s from to tag refusal ≡ Content p → Headed s from to p.start p.end
+pub expect_cost : (s : List ℕ) (from to tag refusal : ℕ) (p : Span) → expect_at s from to tag refusal ≡ Ok p → Headed s from to p.start p.end
 unfolding read_value
 expect_cost s from to tag refusal p e =
     let v = value_inv s from to 65535 tag p.start p.end (expect_value s from to tag refusal p e) in
@@ -96,10 +94,10 @@ expect_cost s from to tag refusal p e =
     }
 
 -- what is looked at after a content
-pub content_then : (g : Got) (k : ℕ → ℕ → ℕ) (P : ℕ → Type 0) → P 0 → ((p : Span) → g ≡ Content p → P (k p.start p.end)) → P (on_content g nothing k)
+pub content_then : (g : Result Span ℕ) (k : ℕ → ℕ → ℕ) (P : ℕ → Type 0) → P 0 → ((p : Span) → g ≡ Ok p → P (k p.start p.end)) → P (on_content g nothing k)
 unfolding on_content
-content_then (Content p) k P z h = h p refl
-content_then (NoContent e) k P z h = z
+content_then (Ok p) k P z h = h p refl
+content_then (Err e) k P z h = z
 
 pub expect_then : (s : List ℕ) (from to tag refusal : ℕ) (k : ℕ → ℕ → ℕ) (P : ℕ → Type 0) → P 0 → ((a b : ℕ) → Headed s from to a b → P (k a b))
     → P (on_content (expect_at s from to tag refusal) nothing k)

@@ -12,12 +12,12 @@ use Rattle.looks.specs.Der.{long_looks, first_looks, length_looks, value_looks, 
 use Rattle.values.specs.Model.{only_byte, truth_in, read_bool, positive_in, nonnegative, small_in, read_small}
 use Rattle.bits.specs.Model.{whole_octets, bits_at}
 use Rattle.looks.specs.Values.{byte_looks, bool_looks, positive_looks, nonnegative_looks, digit_looks, small_looks, bits_looks}
-use Rattle.cert.specs.declared.Reading.TheVariants.{Accepted}
 use Rattle.extensions.specs.Model.{span, known_kind, kind_of, slot_of, put, set_slot, none_known, on_truth, extension_in, content_of, passed_over, remembered, on_parsed, on_kept, taken, go_on, all_kept, gathered, extensions_at}
 use Rattle.envelope.specs.Model.{parts_in, on_parts, opened, is_version, version_at, begun, on_begun}
 use Rattle.cert.specs.Model.{fields_at, on_found, read_certificate}
 use Rattle.looks.specs.Extensions.{kind_looks, extension_looks, content_looks, remembered_looks, taken_looks, gathered_looks, extensions_looks}
 use Rattle.looks.specs.Certificates.{parts_looks, opened_looks, version_looks, begun_looks, fields_looks, read_looks, key_looks, fill_looks, lent_bytes}
+use Rattle.std.specs.Prelude.{Ok}
 
 -- a SEQUENCE that holds an empty one and nothing more
 abbrev pub nearly_empty : List ℕ
@@ -36,7 +36,7 @@ pub refused_looks : (read_looks nearly_empty true ≡ 4) × (read_looks cut_shor
 unfolding read_looks opened_looks parts_looks value_looks length_looks first_looks long_looks high_tag number_at least long_form by_first read_length with_length read_limited read_value of_tag expect_at on_content
 refused_looks = (refl, refl)
 
-pub small_is_read : read_certificate small_certificate true ≡ Accepted (record {
+pub small_is_read : read_certificate small_certificate true ≡ Ok (record {
   signed = span 2 47;
   algorithm = span 49 51;
   signature = span 54 54;

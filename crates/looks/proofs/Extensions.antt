@@ -10,18 +10,15 @@ use borrow.Author.Tests.{eqb-true}
 use Rattle.refusal.specs.Refusals.{bad_der, trailing_certificate_extensions, trailing_extension}
 use Rattle.der.specs.declared.Span.{Span}
 use Rattle.der.specs.Model.{expect_at, on_content}
-use Rattle.values.specs.declared.Truth.{Truth}
-use Rattle.values.specs.declared.Truth.TheVariants.{Is as Said, Refused as NoTruth}
-use Rattle.values.specs.Model.{read_bool}
+use Rattle.values.specs.Model.{read_bool, truth_is}
 use Rattle.extensions.specs.declared.Known.{Known}
-use Rattle.extensions.specs.declared.Kept.{Kept}
-use Rattle.extensions.specs.declared.Kept.TheVariants.{All, Refused as NotKept}
 use Rattle.extensions.specs.Model.{span, there, kind_of, slot_of, set_slot, none_known, on_truth, content_of, passed_over, on_kept}
 use Rattle.looks.specs.Der.{nothing, value_looks}
 use Rattle.looks.specs.Values.{bool_looks}
 use Rattle.looks.specs.Extensions.{kind_looks, extension_looks, content_looks, remembered_looks, taken_looks, gathered_looks, extensions_looks}
 use Rattle.looks.proofs.Der.{at_most, value_few, content_then, expect_then, walk_keeps}
 use Rattle.looks.proofs.Values.{bool_few, bool_cost}
+use Rattle.std.specs.Prelude.{Err, Ok, Result}
 
 kind_few : (s : List ℕ) (a b : ℕ) → kind_looks s a b ≤ b - a
 unfolding kind_looks
@@ -36,15 +33,15 @@ kind_few s a b =
     (λ g. omega arith)))
 
 -- what is looked at after a BOOLEAN, and after an extension that is kept or passed over
-truth_then : (g : Truth) (k : Bool → ℕ → ℕ) (P : ℕ → Type 0) → P 0 → ((v : Bool) (next : ℕ) → g ≡ Said v next → P (k v next)) → P (on_truth g nothing k)
+truth_then : (g : Result (Bool × ℕ) ℕ) (k : Bool → ℕ → ℕ) (P : ℕ → Type 0) → P 0 → ((v : Bool) (next : ℕ) → g ≡ truth_is v next → P (k v next)) → P (on_truth g nothing k)
 unfolding on_truth
-truth_then (Said v next) k P z h = h v next refl
-truth_then (NoTruth e) k P z h = z
+truth_then (Ok v) k P z h = h v.0 v.1 refl
+truth_then (Err e) k P z h = z
 
-kept_then : (g : Kept) (k : Known → ℕ) (P : ℕ → Type 0) → P 0 → ((now : Known) → P (k now)) → P (on_kept g nothing k)
+kept_then : (g : Result Known ℕ) (k : Known → ℕ) (P : ℕ → Type 0) → P 0 → ((now : Known) → P (k now)) → P (on_kept g nothing k)
 unfolding on_kept
-kept_then (All now) k P z h = h now
-kept_then (NotKept e) k P z h = z
+kept_then (Ok now) k P z h = h now
+kept_then (Err e) k P z h = z
 
 -- ---- one extension
 -- beside what is looked at afterwards: each byte of the identifier and of the value once

@@ -7,46 +7,41 @@ use lib.ListN.{length}
 use lib.Dec.{eqb}
 use native.Mathlib.Omega.{arith}
 use Rattle.der.specs.declared.Span.{Span}
-use Rattle.der.specs.declared.Got.{Got}
-use Rattle.der.specs.declared.Got.TheVariants.{Content, Refused as NoContent}
 use Rattle.der.specs.Model.{on_content}
 use Rattle.parts.specs.Model.{same_parts}
 use Rattle.der.specs.Loop.{walk}
-use Rattle.values.specs.declared.Truth.{Truth}
-use Rattle.values.specs.declared.Truth.TheVariants.{Is as Said, Refused as NoTruth}
 use Rattle.extensions.specs.declared.Known.{Known}
-use Rattle.extensions.specs.declared.Kept.{Kept}
-use Rattle.extensions.specs.declared.Kept.TheVariants.{All, Refused as NotKept}
 use Rattle.extensions.specs.Model.{Move, Next, Stop, kind_of, slot_of, none_known, on_truth, extension_in, passed_over, remembered, on_parsed, on_kept, taken}
 use Rattle.envelope.specs.Model.{parts_in, on_parts, opened, begun, on_begun}
 use Rattle.cert.specs.Model.{fields_at, on_found}
 use Rattle.looks.specs.Der.{nothing}
 use Rattle.looks.specs.Extensions.{extension_looks, remembered_looks, taken_looks, gathered_looks, extensions_looks}
 use Rattle.looks.specs.Certificates.{parts_looks, opened_looks, begun_looks, fields_looks, read_looks}
+use Rattle.std.specs.Prelude.{Ok, Err, Result}
 
 -- ---- answers
 -- h counts what is looked at after an answer: nothing after a refusal
-content_follows : {R : Type 0} (h : R → ℕ) (v : ℕ) (g : Got) (other : ℕ → R) (f : ℕ → ℕ → R) (k l : ℕ → ℕ → ℕ) → ((e : ℕ) → h (other e) ≡ 0)
+content_follows : {R : Type 0} (h : R → ℕ) (v : ℕ) (g : Result Span ℕ) (other : ℕ → R) (f : ℕ → ℕ → R) (k l : ℕ → ℕ → ℕ) → ((e : ℕ) → h (other e) ≡ 0)
     → ((a b : ℕ) → k a b ≡ l a b + h (f a b)) → v + on_content g nothing k ≡ (v + on_content g nothing l) + h (on_content g other f)
 unfolding on_content
-content_follows h v (Content p) other f k l z e = omega (arith, e p.start p.end)
-content_follows h v (NoContent n) other f k l z e = omega (arith, z n)
+content_follows h v (Ok p) other f k l z e = omega (arith, e p.start p.end)
+content_follows h v (Err n) other f k l z e = omega (arith, z n)
 
 test_follows : {R : Type 0} (h : R → ℕ) (b : Bool) (x y : R) (k l : ℕ) → h y ≡ 0 → k ≡ l + h x → cond b k 0 ≡ cond b l 0 + h (cond b x y)
 test_follows h true x y k l z e = e
 test_follows h false x y k l z e = omega (arith, z)
 
-truth_follows : {R : Type 0} (h : R → ℕ) (v : ℕ) (g : Truth) (other : ℕ → R) (f : Bool → ℕ → R) (k l : Bool → ℕ → ℕ) → ((e : ℕ) → h (other e) ≡ 0)
+truth_follows : {R : Type 0} (h : R → ℕ) (v : ℕ) (g : Result (Bool × ℕ) ℕ) (other : ℕ → R) (f : Bool → ℕ → R) (k l : Bool → ℕ → ℕ) → ((e : ℕ) → h (other e) ≡ 0)
     → ((b : Bool) (n : ℕ) → k b n ≡ l b n + h (f b n)) → v + on_truth g nothing k ≡ (v + on_truth g nothing l) + h (on_truth g other f)
 unfolding on_truth
-truth_follows h v (Said b n) other f k l z e = omega (arith, e b n)
-truth_follows h v (NoTruth n) other f k l z e = omega (arith, z n)
+truth_follows h v (Ok t) other f k l z e = omega (arith, e t.0 t.1)
+truth_follows h v (Err n) other f k l z e = omega (arith, z n)
 
-kept_follows : {R : Type 0} (h : R → ℕ) (g : Kept) (other : ℕ → R) (f : Known → R) (k l : Known → ℕ) → ((e : ℕ) → h (other e) ≡ 0)
+kept_follows : {R : Type 0} (h : R → ℕ) (g : Result Known ℕ) (other : ℕ → R) (f : Known → R) (k l : Known → ℕ) → ((e : ℕ) → h (other e) ≡ 0)
     → ((now : Known) → k now ≡ l now + h (f now)) → on_kept g nothing k ≡ on_kept g nothing l + h (on_kept g other f)
 unfolding on_kept
-kept_follows h (All now) other f k l z e = e now
-kept_follows h (NotKept n) other f k l z e = omega (arith, z n)
+kept_follows h (Ok now) other f k l z e = e now
+kept_follows h (Err n) other f k l z e = omega (arith, z n)
 
 choice_follows : {R : Type 0} (h : R → ℕ) (b : Bool) (x y : R) (k l m n : ℕ) → k ≡ m + h x → l ≡ n + h y → cond b k l ≡ cond b m n + h (cond b x y)
 choice_follows h true x y k l m n d e = d
@@ -113,7 +108,7 @@ extension_follows h s from to other f r k l q z e =
     truth_follows (λ x. h (on_parsed x other f)) _ _ _ _ _ _ z (λ critical next.
     content_follows (λ x. h (on_parsed x other f)) _ _ _ _ _ _ z (λ c d. turned _ _ _ (e _)))))
 
-remembered_follows : {R : Type 0} (h : R → ℕ) (s : List ℕ) (x : _) (known : Known) (strict : Bool) (q : Kept) (other : ℕ → R) (f : Known → R) (k l : Known → ℕ) → remembered s x known strict ≡ q
+remembered_follows : {R : Type 0} (h : R → ℕ) (s : List ℕ) (x : _) (known : Known) (strict : Bool) (q : Result Known ℕ) (other : ℕ → R) (f : Known → R) (k l : Known → ℕ) → remembered s x known strict ≡ q
     → ((e : ℕ) → h (other e) ≡ 0) → ((now : Known) → k now ≡ l now + h (f now))
     → remembered_looks s x.identifier x.critical x.value known strict k ≡ remembered_looks s x.identifier x.critical x.value known strict l + h (on_kept q other f)
 unfolding remembered_looks remembered on_kept

@@ -1,6 +1,6 @@
 -- What values cost to read: a BIT STRING no more than its bytes, a BOOLEAN one look more, a small INTEGER two. Assumes nothing.
 use Prim.Native.Nat.{ℕ, ◌+◌, ◌-◌, ◌*◌, ◌≤◌, ◌<◌}
-use mathlib.Core.Path.{◌≡◌}
+use mathlib.Core.Path.{◌≡◌, sym, ap}
 use mathlib.Core.List.{List}
 use mathlib.Core.Bool.{Bool, true, false, cond}
 use mathlib.Core.Logic.{⊎_elim}
@@ -10,17 +10,16 @@ use native.Mathlib.Omega.{arith}
 use borrow.Author.Tests.{leb-false, eqb-false}
 use Rattle.refusal.specs.Refusals.{bad_der, trailing_bool, trailing_bit_string}
 use Rattle.der.specs.declared.Span.{Span}
-use Rattle.der.specs.declared.Got.TheVariants.{Content, Refused as NoContent}
 use Rattle.der.specs.Model.{expect_at, on_content}
 use Rattle.looks.specs.Der.{nothing, value_looks}
 use Rattle.der.proofs.Laws.{lt_or_le}
 use Rattle.der.proofs.Invert.{peel, either}
 use Rattle.looks.proofs.Der.{at_most, value_few, expect_cost, expect_then, content_then}
-use Rattle.values.specs.declared.Truth.TheVariants.{Is as Said, Refused as NoTruth}
-use Rattle.values.specs.Model.{only_byte, truth_in, read_bool, positive_in, nonnegative}
+use Rattle.values.specs.Model.{only_byte, truth_in, read_bool, positive_in, nonnegative, truth_is}
 use Rattle.bits.specs.Model.{whole_octets, bits_at}
 use Rattle.looks.specs.Values.{byte_looks, bool_looks, positive_looks, nonnegative_looks, digit_looks, small_looks, bits_looks}
 use Rattle.extensions.proofs.Inversion.{on_content_lem, not_content, chosen}
+use Rattle.std.specs.Prelude.{Ok, Err}
 
 byte_few : (s : List ℕ) (a b : ℕ) → byte_looks s a b ≤ b - a
 unfolding byte_looks
@@ -29,15 +28,20 @@ byte_few s a b =
     at_most (leb b a) (λ f. omega arith) (λ f. omega (arith, leb-false b a f)))
 
 -- ---- BOOLEAN
-not_said : {e n : ℕ} {v : Bool} → NoTruth e ≡ Said v n → ⊥
+not_said : {e n : ℕ} {v : Bool} → Err e ≡ truth_is v n → ⊥
 not_said h = let z : ◌≡◌ {A = ℕ} 0 1 = cc in omega arith
 
-only_end : (from to n : ℕ) (w v : Bool) → only_byte from to w ≡ Said v n → to ≡ n
+said_end : {m n : ℕ} {v w : Bool} → truth_is v m ≡ truth_is w n → m ≡ n
+said_end {m} {n} {v} {w} e = let z : ◌≡◌ {A = Bool × ℕ} (v, m) (w, n) = cc e in ap (λ (p : Bool × ℕ). p.1) z
+
+only_end : (from to n : ℕ) (w v : Bool) → only_byte from to w ≡ truth_is v n → to ≡ n
 unfolding only_byte
-only_end from to n w v e = let p = chosen (eqb (to - from) 1) e not_said in cc p.1
+only_end from to n w v e =
+    let p = chosen (eqb (to - from) 1) e not_said in
+    said_end p.1
 
 -- one that is accepted ends where its content ends
-truth_end : (s : List ℕ) (from to n : ℕ) (v : Bool) → truth_in s from to ≡ Said v n → to ≡ n
+truth_end : (s : List ℕ) (from to n : ℕ) (v : Bool) → truth_in s from to ≡ truth_is v n → to ≡ n
 unfolding truth_in
 truth_end s from to n v e =
     let p = peel (ltb (length s) to) e not_said in
@@ -71,16 +75,16 @@ pub record Passed (s : List ℕ) (from to next : ℕ) : Type 0 where
 none_passed : (s : List ℕ) (from to next : ℕ) → next ≡ from → bool_looks s from to ≤ 1 → Passed s from to next
 none_passed s from to next e c = record { cost = omega arith; ordered = omega arith; inside = λ h. omega arith }
 
-pub bool_cost : (s : List ℕ) (from to next : ℕ) (v : Bool) → read_bool s from to ≡ Said v next → Passed s from to next
+pub bool_cost : (s : List ℕ) (from to next : ℕ) (v : Bool) → read_bool s from to ≡ truth_is v next → Passed s from to next
 unfolding read_bool bool_looks on_content
 bool_cost s from to next v e =
     let p = peel (ltb (length s) to) e not_said in
     ⊎_elim
-    (λ q. none_passed s from to next (cc q.1) (rw (p.0, q.0) (omega arith)))
+    (λ q. none_passed s from to next (sym (said_end q.1)) (rw (p.0, q.0) (omega arith)))
     (λ q.
     ⊎_elim
     (λ r.
-    let g = on_content_lem (expect_at s from to 1 trailing_bool) NoTruth (truth_in s) r.1 (λ n. not_said) in
+    let g = on_content_lem (expect_at s from to 1 trailing_bool) Err (truth_in s) r.1 (λ n. not_said) in
     let a = g.0 in
     let h = expect_cost s from to 1 trailing_bool a g.1 in
     let n = truth_end s a.start a.end next v g.2 in
@@ -89,7 +93,7 @@ bool_cost s from to next v e =
       ordered = omega arith;
       inside = λ i. omega arith;
     })
-    (λ (r : (eqb (get_or s from 0) 1 ≡ false) × (Said false from ≡ Said v next)). none_passed s from to next (cc r.1) (rw (p.0, q.0, r.0) (omega arith)))
+    (λ (r : (eqb (get_or s from 0) 1 ≡ false) × (truth_is false from ≡ truth_is v next)). none_passed s from to next (sym (said_end r.1)) (rw (p.0, q.0, r.0) (omega arith)))
     (either (eqb (get_or s from 0) 1) q.1))
     (either (leb to from) p.1)
 
@@ -114,17 +118,17 @@ nonnegative_few s from to =
     let v = value_few s from to in
     expect_then s from to 2 bad_der (positive_looks s) (λ n. value_looks s from to + n ≤ (to - from) + 1) (omega arith) (λ a b h. omega (arith, positive_few s a b))
 
-some_digit : (s : List ℕ) (a b : ℕ) (p : Span) → positive_in s a b ≡ Content p → a < b
+some_digit : (s : List ℕ) (a b : ℕ) (p : Span) → positive_in s a b ≡ Ok p → a < b
 unfolding positive_in
 some_digit s a b p e =
     let q = peel (ltb (length s) b) e (not_content _) in
     leb-false b a (peel (leb b a) q.1 (not_content _)).0
 
 -- tag, length and a digit
-three_bytes : (s : List ℕ) (from to : ℕ) (p : Span) → nonnegative s from to ≡ Content p → from + 2 < to
+three_bytes : (s : List ℕ) (from to : ℕ) (p : Span) → nonnegative s from to ≡ Ok p → from + 2 < to
 unfolding nonnegative
 three_bytes s from to p e =
-    let g = on_content_lem (expect_at s from to 2 bad_der) NoContent (positive_in s) e not_content in
+    let g = on_content_lem (expect_at s from to 2 bad_der) Err (positive_in s) e not_content in
     let h = expect_cost s from to 2 bad_der g.0 g.1 in
     omega (arith, some_digit s g.0.start g.0.end p g.2)
 
@@ -156,9 +160,9 @@ bits_few s from to =
     let v = value_few s from to in
     expect_then s from to 3 trailing_bit_string (byte_looks s) (λ n. value_looks s from to + n ≤ to - from) (omega arith) (λ a b h. omega (arith, byte_few s a b))
 
-pub bits_wide : (s : List ℕ) (from to : ℕ) (p : Span) → bits_at s from to ≡ Content p → from + 1 < to
+pub bits_wide : (s : List ℕ) (from to : ℕ) (p : Span) → bits_at s from to ≡ Ok p → from + 1 < to
 unfolding bits_at
 bits_wide s from to p e =
-    let g = on_content_lem (expect_at s from to 3 trailing_bit_string) NoContent (whole_octets s) e not_content in
+    let g = on_content_lem (expect_at s from to 3 trailing_bit_string) Err (whole_octets s) e not_content in
     let h = expect_cost s from to 3 trailing_bit_string g.0 g.1 in
     omega arith

@@ -1,4 +1,4 @@
--- How many elements of a slice are read for the extensions: the tests of `crates/extensions/specs/Model.antt` in the same order, and 1 for each `s[i]` that the code beside it comes to.
+-- How many elements of a slice are read for the extensions: the tests of `crates/extensions/specs/Model.antt` in the same order, and 1 for each `s[i]`, and for each byte that a pattern is held against, that the code beside it comes to.
 -- k is what is looked at afterwards.
 use Rattle.std.specs.Prelude.{ℕ, ◌+◌, ◌-◌, List, Bool, cond, length, get_or, ltb, eqb}
 use Rattle.refusal.specs.Refusals.{bad_der, trailing_certificate_extensions, trailing_extension}

@@ -1,35 +1,42 @@
 -- Laws of the world of a request that the functions' proofs cite. Assumes nothing.
-use Prim.Native.Nat.{ℕ, ◌+◌, ◌-◌, ◌≤◌, ◌<◌}
-use mathlib.Core.Path.{◌≡◌, refl, sym, ap, ◌∙◌}
+use Prim.Native.Nat.{ℕ, zero, suc, ◌+◌, ◌-◌, ◌≤◌, ◌<◌}
+use mathlib.Core.Path.{◌≡◌, refl, sym, ap, subst, ◌∙◌}
 use mathlib.Core.Bool.{Bool, true, false, cond}
 use mathlib.Core.Logic.{⊎_elim}
 use mathlib.Core.List.{List, [], ◌∷◌, map}
 use native.Mathlib.Omega.{arith}
 use lib.Dec.{ltb, eqb}
-use lib.ListN.{length, get_or, set}
+use lib.ListN.{length, get_or, set, length-map}
 use borrow.Author.Tests.{le-leb, ltb-true, eqb-true}
+use Rattle.refusal.specs.Model.{outcome}
 use Rattle.refusal.specs.Refusals.{bad_der, invalid_signature_for_public_key, unsupported_signature_algorithm, unsupported_signature_algorithm_for_public_key, maximum_name_constraint_comparisons_exceeded}
 use Rattle.der.proofs.Laws.{lt_or_le}
-use Rattle.lent.specs.Lent.{certificate_of, readings_of, readings_in, pre, some_of}
-use Rattle.cert.specs.declared.Reading.{Reading}
-use Rattle.cert.specs.declared.Reading.TheVariants.{Accepted, Refused as NoCertificate}
-use Rattle.cert.specs.Model.{read_certificate}
+use Rattle.lent.specs.declared.Lent.{Lent}
+use Rattle.lent.specs.declared.Request.{Request}
+use Rattle.lent.specs.Lent.{certificate_of, readings_of, readings_in, pre, some_of, each_now, readings, lent_of}
+use Rattle.cert.specs.Model.{read_certificate, Reading}
 use Rattle.rows.specs.Model.{outlined}
 use Rattle.table.specs.Model.{Held}
 use Rattle.asked.specs.Model.{reply_in}
 use Rattle.path.specs.Model.{check_in}
 use Rattle.candidate.specs.Model.{is_flagged, verdict_in}
 use Rattle.lent.proofs.Laws.{held_readings}
-use Rattle.entries.specs.declared.Spent.{Spent}
-use Rattle.entries.specs.Tally.{Tally, clean, after, spend}
+use Rattle.entries.specs.Tally.{Spent, Tally, clean, after, spend}
 use Rattle.entries.proofs.Spending.{enough, lacking}
 use Rattle.subtrees.specs.Noted.{Noted, lent}
 use Rattle.constraints.specs.Paths.{noted_of, cert_at, certs_at}
 use Rattle.subtrees.specs.Model.{on_read}
 use Rattle.constraints.specs.Model.{own_in, own, anchored_in, issuers_in, issuers as those_of, path_constraints_in, path_constraints}
 use Rattle.dialogue.specs.Model.{Path, World}
-use Rattle.machine.specs.World.{meaning_of, is_bound, names_of, constrained_as, names_in, world_of, world_in, Judges}
+use Rattle.machine.specs.World.{meaning_of, is_bound, names_of, constrained_as, names_in, world_of, world_in, Judges, checks_by, JudgesBy, end_by, world_by}
 use Rattle.machine.proofs.Levels.{pre_push}
+use Rattle.std.specs.Prelude.{Ok, Err}
+
+-- ---- an outcome that is a refusal is not that of 0
+pub outcome_not : (n e : ℕ) → outcome n ≡ Err e → e ≡ 0 → ⊥
+unfolding outcome
+outcome_not zero e h z = cc h
+outcome_not (suc n) e h z = let q : suc n ≡ e = cc h in omega arith
 
 -- ---- the checks of a path with one more certificate
 pub checks_push : (W : World) (R : ℕ → Reading) (I : List (List ℕ)) (E : List ℕ) (n : ℕ) (D : List (List ℕ)) (t : ℕ) (w : List ℕ) (m : Bool) → ((p : Path) → W.check p ≡ check_in R I E n D t w m p)
@@ -111,12 +118,28 @@ judges R I E S K C B D t w m n e = record {
   named = λ anchor path. ap (λ (k : ℕ). (names_in R I E k C B anchor path).refusal) (sym e);
 }
 
+-- ---- the same of what a request lends
+pub request_candidates : (r : Request) → (world_by r).candidates ≡ end_by r
+unfolding world_in
+request_candidates r = omega (arith, length-map r.anchors.subjects.now (λ x. x.now), length-map r.issuers.now (λ x. x.now))
+
+pub request_checks : (r : Request) (l : Lent) → l ≡ lent_of r → (p : Path) → (world_by r).check p ≡ checks_by l r.policy p
+unfolding world_in
+request_checks r l e p =
+    ap (λ (n : ℕ). check_in (readings (lent_of r)) (each_now r.issuers.now) r.end.now n (each_now r.policy.distrusted.now) r.policy.time r.policy.purpose.now r.policy.demanded p) (length-map r.anchors.subjects.now (λ x. x.now))
+    ∙ ap (λ (m : Lent). checks_by m r.policy p) (sym e)
+
+pub request_judges : (r : Request) (l : Lent) → l ≡ lent_of r → JudgesBy (world_by r) l (each_now r.anchors.keys.now) r.anchors
+request_judges r l e =
+    subst (λ (m : Lent). JudgesBy (world_by r) m (each_now r.anchors.keys.now) r.anchors) (sym e)
+    (judges _ _ _ _ _ _ _ _ _ _ _ _ (sym (length-map r.anchors.subjects.now (λ x. x.now))))
+
 -- ---- what is known and what is read
 module _ (I : List (List ℕ)) (E : List ℕ) (a : ℕ) where
   own_none : (r : Reading) (s : List ℕ) (cs : List (List ℕ)) → read_certificate s true ≡ r → constrained_as (outlined r) ≡ false → own s cs ≡ clean
   unfolding own_in on_read constrained_as outlined
-  own_none (Accepted c) s cs e f = rw (e, f)
-  own_none (NoCertificate x) s cs e f = let z : ◌≡◌ {A = ℕ} 0 1 = cc in absurd (omega arith)
+  own_none (Ok c) s cs e f = rw (e, f)
+  own_none (Err x) s cs e f = let z : ◌≡◌ {A = ℕ} 0 1 = cc in absurd (omega arith)
 
   -- a path on which nobody has name constraints
   abbrev Bare : List ℕ → Type 0

@@ -8,36 +8,20 @@ use lib.Dec.{ltb, leb, eqb}
 use lib.ListN.{length, get_or, take, drop}
 use Rattle.refusal.specs.Refusals.{bad_der, maximum_name_constraint_comparisons_exceeded}
 use Rattle.refusal.proofs.Laws.{Mild}
-use Rattle.der.specs.declared.Read.{Read}
-use Rattle.der.specs.declared.Read.TheVariants.{Value, Refused as NoValue}
-use Rattle.der.specs.declared.Got.{Got}
-use Rattle.der.specs.declared.Got.TheVariants.{Content, Refused as NoContent}
 use Rattle.der.specs.Loop.{run, walk}
 use Rattle.der.specs.Model.{read_value, of_tag, expect_at, on_content}
 use Rattle.der.specs.Places.{part}
 use Rattle.cert.specs.declared.Certificate.{Certificate}
-use Rattle.cert.specs.declared.Reading.{Reading}
-use Rattle.cert.specs.declared.Reading.TheVariants.{Accepted, Refused as NotRead}
-use Rattle.dns.specs.declared.Answer.{Answer}
-use Rattle.dns.specs.declared.Answer.TheVariants.{Yes, No, Refused as NoAnswer}
 use Rattle.ip.specs.declared.Masked.{Masked}
 use Rattle.ip.specs.declared.Masked.TheVariants.{Same, Differs, Broken}
-use Rattle.names.specs.declared.general.Name.{Name}
-use Rattle.names.specs.declared.general.Name.TheVariants.{Found, Refused as NoName}
 use Rattle.labels.specs.Model.{valid_presented, valid_entry}
-use Rattle.dns.specs.Model.{in_subtree, meets_subtree, yes_if, match_permitted, match_excluded}
+use Rattle.dns.specs.Model.{match_permitted, match_excluded}
 use Rattle.ip.specs.Model.{neither, masked_byte, on_masked, subnet_from, match_subnet}
 use Rattle.names.specs.Model.{is_kind, of_kind, general_name}
-use Rattle.entries.specs.declared.Base.{Base}
-use Rattle.entries.specs.declared.Base.TheVariants.{Is, Refused as NoBase}
 use Rattle.entries.specs.declared.Seen.{Seen}
-use Rattle.entries.specs.declared.Step.{Step}
-use Rattle.entries.specs.declared.Step.TheVariants.{Next, Stop}
 use Rattle.entries.specs.Tally.{Tally, tally, clean, after}
 use Rattle.entries.specs.Model.{on_name, base_at, compared, settled, on_base, judged, unseen, closed, ended, go_on, entries}
 use Rattle.subtrees.specs.declared.Subtrees.{Subtrees}
-use Rattle.subtrees.specs.declared.Lists.{Lists}
-use Rattle.subtrees.specs.declared.Lists.TheVariants.{Are, Refused as NoLists}
 use Rattle.subtrees.specs.Noted.{Noted}
 use Rattle.subtrees.specs.Model.{list_at, subtrees_at, name, next_name, alternatives, on_read, certificate_as}
 use Rattle.constraints.specs.Model.{below_in, on_lists, constraints_in, own_in, anchored_in, issuers_in, path_constraints_in}
@@ -45,31 +29,35 @@ use Rattle.dialogue.specs.Model.{Path}
 use Rattle.rows.specs.Model.{outlined}
 use Rattle.lent.specs.Lent.{some_of}
 use Rattle.machine.specs.World.{is_bound, constrained_as, names_in}
+use Rattle.std.specs.Prelude.{None, Ok, Err, Some, Option, Result}
+use Rattle.der.specs.declared.Value.{Value}
+use Rattle.der.specs.declared.Span.{Span}
+use Rattle.cert.specs.Model.{Reading}
+use Rattle.names.specs.declared.general.Name.{Name}
 
-abbrev MildAnswer : Answer → Type 0
-MildAnswer Yes = Unit {0}
-MildAnswer No = Unit {0}
-MildAnswer (NoAnswer e) = Mild e
+abbrev MildAnswer : Result Bool ℕ → Type 0
+MildAnswer (Ok b) = Unit {0}
+MildAnswer (Err e) = Mild e
 
-abbrev MildName : Name → Type 0
-MildName (Found kind start end) = Unit {0}
-MildName (NoName e) = Mild e
+abbrev MildName : Result Name ℕ → Type 0
+MildName (Ok v) = Unit {0}
+MildName (Err e) = Mild e
 
-abbrev MildGot : Got → Type 0
-MildGot (Content p) = Unit {0}
-MildGot (NoContent e) = Mild e
+abbrev MildGot : Result Span ℕ → Type 0
+MildGot (Ok p) = Unit {0}
+MildGot (Err e) = Mild e
 
-abbrev MildBase : Base → Type 0
-MildBase (Is kind start end) = Unit {0}
-MildBase (NoBase e) = Mild e
+abbrev MildBase : Result Name ℕ → Type 0
+MildBase (Ok v) = Unit {0}
+MildBase (Err e) = Mild e
 
-abbrev MildStep : Step → Type 0
-MildStep (Next at seen) = Unit {0}
-MildStep (Stop e) = Mild e
+abbrev MildStep : Result (ℕ × Seen) ℕ → Type 0
+MildStep (Ok v) = Unit {0}
+MildStep (Err e) = Mild e
 
-abbrev MildLists : Lists → Type 0
-MildLists (Are lists) = Unit {0}
-MildLists (NoLists e) = Mild e
+abbrev MildLists : Result Subtrees ℕ → Type 0
+MildLists (Ok lists) = Unit {0}
+MildLists (Err e) = Mild e
 
 abbrev MildTally : Tally → Type 0
 MildTally t = Mild t.refusal
@@ -83,27 +71,27 @@ mild_expect : (s : List ℕ) (from to tag : ℕ) → MildGot (expect_at s from t
 unfolding expect_at of_tag
 mild_expect s from to tag = by (read_value s from to)
   where
-    by : (r : Read) → MildGot (of_tag tag bad_der r)
-    by (Value t a b) = both MildGot (eqb t tag) _ _ tt (omega arith)
-    by NoValue = omega arith
+    by : (r : Option Value) → MildGot (of_tag tag bad_der r)
+    by (Some v) = both MildGot (eqb v.tag tag) _ _ tt (omega arith)
+    by None = omega arith
 
 mild_name : (s : List ℕ) (from to : ℕ) → MildName (general_name s from to)
 unfolding general_name of_kind
 mild_name s from to = by (read_value s from to)
   where
-    by : (r : Read) → MildName (of_kind r)
-    by (Value t a b) = both MildName (is_kind t) _ _ tt (omega arith)
-    by NoValue = omega arith
+    by : (r : Option Value) → MildName (of_kind r)
+    by (Some v) = both MildName (is_kind v.tag) _ _ tt (omega arith)
+    by None = omega arith
 
-mild_content : {R : Type 0} (P : R → Type 0) (g : Got) (other : ℕ → R) (k : ℕ → ℕ → R) → MildGot g → ((e : ℕ) → Mild e → P (other e)) → ((a b : ℕ) → P (k a b)) → P (on_content g other k)
+mild_content : {R : Type 0} (P : R → Type 0) (g : Result Span ℕ) (other : ℕ → R) (k : ℕ → ℕ → R) → MildGot g → ((e : ℕ) → Mild e → P (other e)) → ((a b : ℕ) → P (k a b)) → P (on_content g other k)
 unfolding on_content
-mild_content P (Content p) other k m f h = h p.start p.end
-mild_content P (NoContent e) other k m f h = f e m
+mild_content P (Ok p) other k m f h = h p.start p.end
+mild_content P (Err e) other k m f h = f e m
 
-mild_found : {R : Type 0} (P : R → Type 0) (g : Name) (other : ℕ → R) (k : ℕ → ℕ → ℕ → R) → MildName g → ((e : ℕ) → Mild e → P (other e)) → ((n a b : ℕ) → P (k n a b)) → P (on_name g other k)
+mild_found : {R : Type 0} (P : R → Type 0) (g : Result Name ℕ) (other : ℕ → R) (k : ℕ → ℕ → ℕ → R) → MildName g → ((e : ℕ) → Mild e → P (other e)) → ((n a b : ℕ) → P (k n a b)) → P (on_name g other k)
 unfolding on_name
-mild_found P (Found n a b) other k m f h = h n a b
-mild_found P (NoName e) other k m f h = f e m
+mild_found P (Ok v) other k m f h = h v.kind v.start v.end
+mild_found P (Err e) other k m f h = f e m
 
 mild_base : (s : List ℕ) (at to : ℕ) → MildBase (base_at s at to)
 unfolding base_at
@@ -113,21 +101,17 @@ mild_base s at to =
     (λ n c d. both MildBase (eqb d b) _ _ tt (omega arith)))
 
 -- ---- one comparison
-mild_yes : (b : Bool) → MildAnswer (yes_if b)
-unfolding yes_if
-mild_yes b = both MildAnswer b _ _ tt tt
-
 mild_permitted : (p q : List ℕ) → MildAnswer (match_permitted p q)
 unfolding match_permitted
 mild_permitted p q =
-    both MildAnswer (valid_presented p) _ _ (both MildAnswer (valid_entry q) _ _ (mild_yes (in_subtree p q)) (omega arith)) (omega arith)
+    both MildAnswer (valid_presented p) _ _ (both MildAnswer (valid_entry q) _ _ tt (omega arith)) (omega arith)
 
 mild_excluded : (p q : List ℕ) → MildAnswer (match_excluded p q)
 unfolding match_excluded
 mild_excluded p q =
-    both MildAnswer (valid_presented p) _ _ (both MildAnswer (valid_entry q) _ _ (mild_yes (meets_subtree p q)) (omega arith)) (omega arith)
+    both MildAnswer (valid_presented p) _ _ (both MildAnswer (valid_entry q) _ _ tt (omega arith)) (omega arith)
 
-mild_masked : (m : Masked) (a : Answer) → MildAnswer a → MildAnswer (on_masked m a)
+mild_masked : (m : Masked) (a : Result Bool ℕ) → MildAnswer a → MildAnswer (on_masked m a)
 unfolding on_masked
 mild_masked Same a h = h
 mild_masked Differs a h = tt
@@ -155,16 +139,16 @@ mild_compared excluded kind p q =
     (both MildAnswer (eqb kind 164) _ _ (both MildAnswer excluded _ _ tt tt)
     (both MildAnswer (eqb kind 134) _ _ (both MildAnswer excluded _ _ tt tt) (omega arith))))
 
-mild_settled : (excluded : Bool) (seen : Seen) (next : ℕ) (a : Answer) → MildAnswer a → MildStep (settled excluded seen next a)
+mild_settled : (excluded : Bool) (seen : Seen) (next : ℕ) (a : Result Bool ℕ) → MildAnswer a → MildStep (settled excluded seen next a)
 unfolding settled
-mild_settled excluded seen next Yes m = both MildStep excluded _ _ (omega arith) tt
-mild_settled excluded seen next No m = both MildStep excluded _ _ tt tt
-mild_settled excluded seen next (NoAnswer e) m = m
+mild_settled excluded seen next (Ok true) m = both MildStep excluded _ _ (omega arith) tt
+mild_settled excluded seen next (Ok false) m = both MildStep excluded _ _ tt tt
+mild_settled excluded seen next (Err e) m = m
 
-mild_on_base : (b : Base) (k : ℕ → ℕ → ℕ → Step) → MildBase b → ((n a d : ℕ) → MildStep (k n a d)) → MildStep (on_base b Stop k)
+mild_on_base : (b : Result Name ℕ) (k : ℕ → ℕ → ℕ → Result (ℕ × Seen) ℕ) → MildBase b → ((n a d : ℕ) → MildStep (k n a d)) → MildStep (on_base b Err k)
 unfolding on_base
-mild_on_base (Is n a d) k m h = h n a d
-mild_on_base (NoBase e) k m h = m
+mild_on_base (Ok v) k m h = h v.kind v.start v.end
+mild_on_base (Err e) k m h = m
 
 mild_judged : (s : List ℕ) (to : ℕ) (excluded : Bool) (kind : ℕ) (p : List ℕ) (at : ℕ) (seen : Seen) → MildStep (judged s to excluded kind p at seen)
 unfolding judged
@@ -193,10 +177,10 @@ mild_closed : (seen : Seen) → Mild (closed seen)
 unfolding closed
 mild_closed seen = both Mild seen.hit _ _ (omega arith) (both Mild seen.miss _ _ (omega arith) (omega arith))
 
-mild_on : (x : Step) (k : ℕ → Seen → Tally) → MildStep x → ((a : ℕ) (t : Seen) → MildTally (k a t)) → MildTally (go_on x k)
+mild_on : (x : Result (ℕ × Seen) ℕ) (k : ℕ → Seen → Tally) → MildStep x → ((a : ℕ) (t : Seen) → MildTally (k a t)) → MildTally (go_on x k)
 unfolding go_on
-mild_on (Next at seen) k m h = mild_after (tally 1 0) (k at seen) (omega arith) (h at seen)
-mild_on (Stop e) k m h = m
+mild_on (Ok v) k m h = mild_after (tally 1 0) (k v.0 v.1) (omega arith) (h v.0 v.1)
+mild_on (Err e) k m h = m
 
 mild_ended : (at : ℕ) (seen : Seen) → MildTally (ended at seen)
 unfolding ended
@@ -211,7 +195,7 @@ mild_both : (s : List ℕ) (lists : Subtrees) (kind : ℕ) (p : List ℕ) → Mi
 unfolding name
 mild_both s lists kind p = mild_after _ _ (mild_entries s _ _ false kind p) (mild_entries s _ _ true kind p)
 
-mild_next : (s : List ℕ) (lists : Subtrees) (t : List ℕ) (n : Name) (k : ℕ → Unit {0} → Tally) → MildName n → ((a : ℕ) (u : Unit {0}) → MildTally (k a u)) → MildTally (next_name s lists t n k)
+mild_next : (s : List ℕ) (lists : Subtrees) (t : List ℕ) (n : Result Name ℕ) (k : ℕ → Unit {0} → Tally) → MildName n → ((a : ℕ) (u : Unit {0}) → MildTally (k a u)) → MildTally (next_name s lists t n k)
 unfolding next_name
 mild_next s lists t n k m h =
     mild_found MildTally n _ _ m (λ e l. l) (λ kind a b. mild_after _ _ (mild_both s lists kind (part t a b)) (h b tt))
@@ -224,8 +208,8 @@ mild_alternatives s lists t from to =
 -- ---- certificates and issuers
 mild_read : (r : Reading) (k : Certificate → Tally) → ((c : Certificate) → MildTally (k c)) → MildTally (on_read r (tally 0 bad_der) k)
 unfolding on_read
-mild_read (Accepted c) k h = h c
-mild_read (NotRead e) k h = omega arith
+mild_read (Ok c) k h = h c
+mild_read (Err e) k h = omega arith
 
 mild_certificate : (s : List ℕ) (lists : Subtrees) (t : Noted) → MildTally (certificate_as s lists t)
 unfolding certificate_as
@@ -250,10 +234,10 @@ mild_subtrees s from to =
     mild_content MildLists (list_at s from to 160) _ _ (mild_list s from to 160) (λ e m. m)
     (λ a b. mild_content MildLists (list_at s b to 161) _ _ (mild_list s b to 161) (λ e m. m) (λ c d. tt))
 
-mild_lists : (x : Lists) (k : Subtrees → Tally) → MildLists x → ((l : Subtrees) → MildTally (k l)) → MildTally (on_lists x (tally 0) k)
+mild_lists : (x : Result Subtrees ℕ) (k : Subtrees → Tally) → MildLists x → ((l : Subtrees) → MildTally (k l)) → MildTally (on_lists x (tally 0) k)
 unfolding on_lists
-mild_lists (Are l) k m h = h l
-mild_lists (NoLists e) k m h = m
+mild_lists (Ok l) k m h = h l
+mild_lists (Err e) k m h = m
 
 mild_constraints : (s : List ℕ) (from to : ℕ) (cs : List Noted) → MildTally (constraints_in s from to cs)
 unfolding constraints_in

@@ -1,12 +1,15 @@
 -- The world of a request: what the search asks of candidates, paths and answers, as functions of the lent bytes; and the same by what is known of
 -- each certificate, which is how the machine sees it.
-use Rattle.std.specs.Prelude.{ℕ, ◌+◌, ◌≡◌, Bool, true, false, cond, List, [], map, ltb, eqb, length, get_or}
+use Rattle.std.specs.Prelude.{ℕ, ◌+◌, ◌≡◌, Bool, true, false, cond, List, [], map, ltb, eqb, length, get_or, Ok, Err, Result}
 use Rattle.refusal.specs.Refusals.{bad_der, invalid_signature_for_public_key, unsupported_signature_algorithm, unsupported_signature_algorithm_for_public_key}
-use Rattle.cert.specs.declared.Reading.{Reading}
-use Rattle.rows.specs.declared.Outlined.{Outlined}
-use Rattle.rows.specs.declared.Outlined.TheVariants.{Is, Refused}
+use Rattle.cert.specs.Model.{Reading}
+use Rattle.rows.specs.declared.Outline.{Outline}
 use Rattle.rows.specs.Model.{outlined}
-use Rattle.lent.specs.Lent.{certificate_of, some_of}
+use Rattle.lent.specs.declared.Lent.{Lent}
+use Rattle.lent.specs.declared.Anchors.{Anchors}
+use Rattle.lent.specs.declared.Policy.{Policy}
+use Rattle.lent.specs.declared.Request.{Request}
+use Rattle.lent.specs.Lent.{certificate_of, some_of, each_now, readings, lent_of}
 use Rattle.asked.specs.Model.{reply_in, reply_of}
 use Rattle.path.specs.Model.{check_in, check_on}
 use Rattle.candidate.specs.Model.{is_flagged, verdict_in, verdict_on}
@@ -36,9 +39,9 @@ names_of issuers end anchors constraints bound anchor path =
     path_constraints (get_or constraints anchor []) (is_bound constraints bound anchor) (map (certificate_of issuers end anchors) path)
 
 -- whether a certificate has name constraints, as far as is known
-unfoldable pub constrained_as : Outlined → Bool
-constrained_as (Is o) = o.constrained
-constrained_as (Refused e) = true
+unfoldable pub constrained_as : Result Outline ℕ → Bool
+constrained_as (Ok o) = o.constrained
+constrained_as (Err e) = true
 
 -- the name constraints of a path by what is known; one on which nobody is known to have any is not looked at
 unfoldable pub names_in : (ℕ → Reading) → List (List ℕ) → List ℕ → ℕ → List (List ℕ) → List ℕ → ℕ → Path → Tally
@@ -80,3 +83,23 @@ pub record Judges (W : World) (known : ℕ → Reading) (issuers : List (List �
   pub reply : (key : ℕ) (what : What) (answer : ℕ) → W.reply key what answer ≡ reply_in known issuers end keys anchors key (meaning_of answer)
   pub cost : (anchor : ℕ) (path : Path) → W.cost anchor path ≡ (names_in known issuers end anchors constraints bound anchor path).taken
   pub named : (anchor : ℕ) (path : Path) → W.named anchor path ≡ (names_in known issuers end anchors constraints bound anchor path).refusal
+
+-- ---- the same of what is lent
+-- the checks of a path
+abbrev pub checks_by : Lent → Policy → Path → ℕ
+checks_by l p = check_in (readings l) (each_now l.issuers.now) l.end.now l.anchors (each_now p.distrusted.now) p.time p.purpose.now p.demanded
+
+-- the name constraints of a path at an anchor
+abbrev pub names_by : Lent → Anchors → ℕ → Path → Tally
+names_by l a = names_in (readings l) (each_now l.issuers.now) l.end.now l.anchors (each_now a.constraints.now) a.bound.now
+
+abbrev pub JudgesBy : World → Lent → List (List ℕ) → Anchors → Type 0
+JudgesBy W l keys a = Judges W (readings l) (each_now l.issuers.now) l.end.now keys (each_now a.constraints.now) a.bound.now l.anchors
+
+-- the number of the end entity
+abbrev pub end_by : Request → ℕ
+end_by r = length r.anchors.subjects.now + length r.issuers.now
+
+abbrev pub world_by : Request → World
+world_by r =
+    world_in (readings (lent_of r)) (each_now r.issuers.now) r.end.now (each_now r.anchors.subjects.now) (each_now r.anchors.keys.now) (each_now r.anchors.constraints.now) r.anchors.bound.now (each_now r.policy.distrusted.now) r.policy.time r.policy.purpose.now r.policy.demanded

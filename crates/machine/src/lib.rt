@@ -4,6 +4,8 @@
 ghost use Rattle.std.specs.Prelude.{◌≡◌};
 ghost use Rattle.machine.specs.Machine.{key_at, cert_at, place_of};
 
+use refusal::Refusal;
+
 // What the machine waits for, or how it ended. Ask: whether a key signed a certificate. Offer: whether the caller is content with the path.
 // Spent: which budget is used up.
 #[derive(Clone, Copy)]
@@ -12,8 +14,8 @@ pub enum Phase {
     Ask,
     Offer,
     Found,
-    Refused(u16),
-    Spent(u16),
+    Refused(Refusal),
+    Spent(Refusal),
 }
 
 #[derive(Clone, Copy)]
@@ -31,7 +33,7 @@ pub struct State {
     pub signatures: u64,
     pub extensions: u64,
     pub comparisons: u64,
-    pub best: u16,
+    pub best: Refusal,
     pub phase: Phase,
 }
 
@@ -47,32 +49,22 @@ pub struct Numbers {
 pub fn place(s: State) -> usize
     ensures { result ≡ place_of s }
 {
-    let at = s.at;
-    let depth = s.depth;
-    if at < depth {
-        return at;
-    }
-    depth
+    if s.at < s.depth { s.at } else { s.depth }
 }
 
 // The question of a state: the highest certificate is asked of the anchor's key, each other of the key of the one above it.
 pub fn asked(s: State) -> Numbers
     ensures { result ≡ record { key = key_at s; certificate = cert_at s; list = s.list } }
 {
-    let at = s.at;
-    let depth = s.depth;
-    let numbers = s.path;
+    let key = if s.at < s.depth {
+        lent::number_at(s.path, s.at + 1)
+    } else {
+        s.anchor
+    };
     let list = s.list;
-    if at < depth {
-        return Numbers {
-            key: lent::number_at(numbers, at + 1),
-            certificate: lent::number_at(numbers, at),
-            list,
-        };
-    }
     Numbers {
-        key: s.anchor,
-        certificate: lent::number_at(numbers, depth),
+        key,
+        certificate: lent::number_at(s.path, place(s)),
         list,
     }
 }

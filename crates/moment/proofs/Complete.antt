@@ -10,9 +10,8 @@ use borrow.Author.Tests.{le-ltb}
 use Rattle.der.specs.Places.{part}
 use Rattle.der.specs.Model.{high_tag}
 use Rattle.der.proofs.Parts.{part_length}
-use Rattle.moment.specs.declared.Time.TheVariants.{At}
 use Rattle.moment.specs.Calendar.{Date, seconds_to, Kind, utc, generalized, tag_of, text, IsTime}
-use Rattle.moment.specs.Model.{time_at}
+use Rattle.moment.specs.Model.{time_at, time_is}
 use Rattle.moment.proofs.Contents.{encoded_at}
 use Rattle.moment.proofs.Fronts.{size, text_length, Front, fate, goes_on}
 use Rattle.moment.proofs.Values.{value_answers}
@@ -27,11 +26,11 @@ unfolding size
 short_text utc = lit< tt
 short_text generalized = lit< tt
 
-nothing_after : (d : Date) (at end : ℕ) → end ≤ at → fate d at end ≡ At (seconds_to d) end
+nothing_after : (d : Date) (at end : ℕ) → end ≤ at → fate d at end ≡ time_is (seconds_to d) end
 unfolding fate
 nothing_after d at end h = rw (le-ltb at end h)
 
-pub time_is_accepted : (kind : Kind) (s : List ℕ) (from to n next : ℕ) → next ≤ to → to ≤ length s → IsTime kind (part s from next) n → time_at s from to ≡ At n next
+pub time_is_accepted : (kind : Kind) (s : List ℕ) (from to n next : ℕ) → next ≤ to → to ≤ length s → IsTime kind (part s from next) n → time_at s from to ≡ time_is n next
 time_is_accepted kind s from to n next h l t =
     let d = t.date in
     let long = text_length kind d in
@@ -45,4 +44,4 @@ time_is_accepted kind s from to n next h l t =
     value_answers kind s from to start next e.found
     ∙ goes_on kind s start next (omega arith) f
     ∙ nothing_after d (start + size kind) next (omega arith)
-    ∙ ap (λ m. At m next) t.count
+    ∙ ap (λ m. time_is m next) t.count

@@ -6,17 +6,16 @@ use mathlib.Core.Bool.{false}
 use lib.ListN.{length, length-append}
 use native.Mathlib.Omega.{arith}
 use Rattle.der.specs.declared.Span.{Span}
-use Rattle.der.specs.declared.Got.TheVariants.{Content}
-use Rattle.der.specs.declared.Read.TheVariants.{Value}
 use Rattle.der.specs.Places.{part}
 use Rattle.der.specs.X690.{length_bytes, encoding}
-use Rattle.der.specs.Model.{high_tag, read_value, expect_at}
+use Rattle.der.specs.Model.{high_tag, read_value, expect_at, value_is}
 use Rattle.der.proofs.Laws.{expect_value}
 use Rattle.der.proofs.Parts.{part_length, part_front}
 use Rattle.der.proofs.Theorems.{value_places, encoded_is_accepted}
+use Rattle.std.specs.Prelude.{Ok}
 
 -- a content that was looked for lies within the bytes
-pub content_within : (s : List ℕ) (from to tag refusal : ℕ) (p : Span) → expect_at s from to tag refusal ≡ Content p
+pub content_within : (s : List ℕ) (from to tag refusal : ℕ) (p : Span) → expect_at s from to tag refusal ≡ Ok p
     → (p.start ≤ p.end) × (p.end ≤ length s)
 content_within s from to tag refusal p e =
     let v = value_places s from to tag p.start p.end (expect_value s from to tag refusal p e) in
@@ -25,7 +24,7 @@ content_within s from to tag refusal p e =
 -- an encoding is read as a value with its content
 pub record EncodedAt (s : List ℕ) (from to next tag : ℕ) (content : List ℕ) : Type 0 where
   pub start : ℕ
-  pub found : read_value s from to ≡ Value tag start next
+  pub found : read_value s from to ≡ value_is tag start next
   pub ordered : start ≤ next
   pub content_is : part s start next ≡ content
 

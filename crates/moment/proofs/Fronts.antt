@@ -12,13 +12,12 @@ use Rattle.refusal.specs.Refusals.{bad_der_time, trailing_time}
 use Rattle.der.specs.Places.{part}
 use Rattle.der.proofs.Laws.{tests}
 use Rattle.der.proofs.Invert.{peel, either}
-use Rattle.moment.specs.declared.Time.{Time}
-use Rattle.moment.specs.declared.Time.TheVariants.{At, Refused}
 use Rattle.moment.specs.Calendar.{Date, Real, seconds_to, Kind, utc, generalized, two_digits, after_year, text, full_year, Writes}
-use Rattle.moment.specs.Model.{two_at, date_at, unreal, moment_of, after_year_at, utc_in, generalized_in}
+use Rattle.moment.specs.Model.{two_at, date_at, unreal, moment_of, after_year_at, utc_in, generalized_in, time_is}
 use Rattle.moment.proofs.RealDates.{left_is_real, real_is_left}
 use Rattle.moment.proofs.Text.{two_written, after_written, two_read, after_read}
 use Rattle.moment.proofs.Years.{full_year_lem}
+use Rattle.std.specs.Prelude.{Err, Result}
 
 -- the length of a kind's texts
 unfoldable pub size : Kind → ℕ
@@ -31,7 +30,7 @@ text_length utc d = refl
 text_length generalized d = refl
 
 -- the answer for a content of a kind
-unfoldable pub content_in : Kind → List ℕ → ℕ → ℕ → Time
+unfoldable pub content_in : Kind → List ℕ → ℕ → ℕ → Result (ℕ × ℕ) ℕ
 content_in utc s start end = utc_in s start end
 content_in generalized s start end = generalized_in s start end
 
@@ -45,8 +44,8 @@ pub record Front (kind : Kind) (s : List ℕ) (start end : ℕ) : Type 0 where
   pub said : part s start (start + size kind) ≡ text kind date
 
 -- the answer for a date whose text ends at `at`, in a content that ends at `end`
-unfoldable pub fate : Date → ℕ → ℕ → Time
-fate d at end = cond (ltb at end) (Refused trailing_time) (At (seconds_to d) end)
+unfoldable pub fate : Date → ℕ → ℕ → Result (ℕ × ℕ) ℕ
+fate d at end = cond (ltb at end) (Err trailing_time) (time_is (seconds_to d) end)
 
 pub real_fate : (d : Date) (at end : ℕ) → Real d → moment_of d at end ≡ fate d at end
 unfolding moment_of fate
@@ -58,18 +57,18 @@ real_fate d at end r = rw (real_is_left d r)
 if_equal : {A : Type 0} (a b : ℕ) {x y z : A} → cond (eqb a b) x y ≡ z → (y ≡ z → ⊥) → (a ≡ b) × (x ≡ z)
 if_equal a b e other = ⊎_elim (λ w. (eqb-true a b w.0, w.1)) (λ w. absurd (other w.1)) (either (eqb a b) e)
 
-record After (s : List ℕ) (at end year : ℕ) (z : Time) : Type 0 where
+record After (s : List ℕ) (at end year : ℕ) (z : Result (ℕ × ℕ) ℕ) : Type 0 where
   pub since : 1970 ≤ year
   pub ends : get_or s (at + 10) 0 ≡ 90
   pub real : Real (date_at s at year)
   pub fate_is : fate (date_at s at year) (at + 11) end ≡ z
 
 -- a front, and the answer that comes of it
-pub record Fronted (z : Time) (kind : Kind) (s : List ℕ) (start end : ℕ) : Type 0 where
+pub record Fronted (z : Result (ℕ × ℕ) ℕ) (kind : Kind) (s : List ℕ) (start end : ℕ) : Type 0 where
   pub front : Front kind s start end
   pub fate_is : fate front.date (start + size kind) end ≡ z
 
-module _ (z : Time) (good : Refused bad_der_time ≡ z → ⊥) where
+module _ (z : Result (ℕ × ℕ) ℕ) (good : Err bad_der_time ≡ z → ⊥) where
   after : (s : List ℕ) (at end year : ℕ) → after_year_at s at end year ≡ z → After s at end year z
   unfolding after_year_at moment_of fate
   after s at end year e =

@@ -8,9 +8,8 @@ use native.Mathlib.Omega.{arith}
 use Rattle.der.specs.Places.{part, Bytes}
 use Rattle.der.specs.X690.{encoding}
 use Rattle.der.proofs.Parts.{part_cons}
-use Rattle.moment.specs.declared.Time.TheVariants.{At}
 use Rattle.moment.specs.Calendar.{Date, Kind, utc, generalized, tag_of, text, IsTime}
-use Rattle.moment.specs.Model.{time_at}
+use Rattle.moment.specs.Model.{time_at, time_is}
 use Rattle.moment.proofs.Order.{one_date}
 use Rattle.moment.proofs.Sound.{accepted_is_time, time_places, TimePlaces}
 
@@ -26,7 +25,7 @@ first_byte kind s from to n next p t =
     cc (part_cons s from next p.after (omega (arith, p.after, p.inside, p.within)), t.encoded)
 
 pub one_encoding : (s s' : List ℕ) → Bytes s → Bytes s' → (from to from' to' n next next' : ℕ)
-    → time_at s from to ≡ At n next → time_at s' from' to' ≡ At n next' → get_or s from 0 ≡ get_or s' from' 0
+    → time_at s from to ≡ time_is n next → time_at s' from' to' ≡ time_is n next' → get_or s from 0 ≡ get_or s' from' 0
     → part s from next ≡ part s' from' next'
 unfolding tag_of
 one_encoding s s' b b' from to from' to' n next next' e e' same =

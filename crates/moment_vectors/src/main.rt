@@ -2,7 +2,7 @@
 // refusal.
 #![tactic(auto)]
 
-use moment::Time;
+use refusal::Refusal;
 use std::io;
 use std::io::{BufWriter, Write};
 
@@ -10,35 +10,26 @@ fn put(to: &mut impl Write, text: &[u8]) -> io::Result<()> {
     to.write_all(text)
 }
 
-fn show_refusal(to: &mut impl Write, e: u16) -> io::Result<()> {
-    if e == refusal::BAD_DER_TIME {
-        return put(to, b"BadDerTime");
+fn show_refusal(to: &mut impl Write, e: Refusal) -> io::Result<()> {
+    match e {
+        Refusal::BAD_DER_TIME => put(to, b"BadDerTime"),
+        Refusal::TRAILING_TIME => put(to, b"TrailingData(Time)"),
+        _ => put(to, b"another refusal"),
     }
-    if e == refusal::TRAILING_TIME {
-        return put(to, b"TrailingData(Time)");
-    }
-    put(to, b"another refusal")
 }
 
 fn show(to: &mut impl Write, s: &[u8]) -> io::Result<()> {
     match moment::time_at(s, 0, s.len()) {
-        Time::At { seconds, next } => {
-            write!(to, "ok {seconds} {next}")?;
-        }
-        Time::Refused(e) => {
-            show_refusal(to, e)?;
-        }
+        Ok((seconds, next)) => write!(to, "ok {seconds} {next}")?,
+        Err(e) => show_refusal(to, e)?,
     }
     put(to, b"\n")
 }
 
 fn show_all(to: &mut impl Write, text: &[u8], out: &mut [u8]) -> io::Result<()> {
-    let mut at = 0;
-    while at < text.len() {
-        let end = hexlines::line_end(text, at);
-        let count = hexlines::bytes(text, at, end, out);
+    for line in text.split_inclusive(|b| *b == b'\n') {
+        let count = hexlines::bytes(line, 0, hexlines::line_end(line, 0), out);
         show(to, &out[..count])?;
-        at = end + 1;
     }
     Ok(())
 }

@@ -14,13 +14,13 @@ use Rattle.labels.specs.Names.{digit, capital, letter, label_byte, every, none, 
 use Rattle.labels.proofs.Labels.{true_false}
 use Rattle.dns.proofs.Texts.{both}
 use Rattle.ip.proofs.Bits.{bytes_cons}
-use Rattle.names.specs.declared.general.Verdict.TheVariants.{Good}
 use Rattle.names.specs.General.{dns_name, ip_address, choices, among, General, Named, encoded, Each, ForDns}
 use Rattle.names.specs.Conforming.{directory_name, preferred, ConformingName}
 use Rattle.names.specs.Model.{good_for_dns}
 use Rattle.der.proofs.Parts.{part_whole}
 use Rattle.names.proofs.Once.{names_once}
 use Rattle.names.proofs.Wanted.{dns_good}
+use Rattle.std.specs.Prelude.{Ok}
 
 bytes_of : (s : List ℕ) → every (λ b. ltb b 256) s ≡ true → Bytes s
 unfolding every
@@ -39,7 +39,7 @@ names k c = named k c ∷ named dns_name wanted ∷ []
 
 -- a witness: the bytes are good for a.b, and no names that are all as the RFC demands have them as their encoding
 pub record Weaker (bytes : List ℕ) : Type 0 where
-  pub good : good_for_dns bytes 0 (length bytes) wanted ≡ Good
+  pub good : good_for_dns bytes 0 (length bytes) wanted ≡ Ok tt
   pub not_conforming : (ns : List General) → Each Named ns → bytes ≡ encoded ns → Each ConformingName ns → ⊥
 
 -- the name a.b is as it demands

@@ -7,6 +7,7 @@ use native.Mathlib.Omega.{arith}
 use Rattle.der.proofs.Parts.{part_whole}
 use Rattle.der.specs.X690.{encoding}
 use Rattle.names.specs.General.{General, Named, encoded, Each}
+use Rattle.names.proofs.Laws.{name_same}
 use Rattle.names.proofs.Rows.{read_name}
 
 same_name : (n m : General) → n.kind ≡ m.kind → n.content ≡ m.content → n ≡ m
@@ -19,12 +20,9 @@ name_once n m rest rest' a b e =
     let s = encoding n.kind n.content ++ rest in
     let f = read_name s 0 (length s) n rest a (omega arith) (omega arith) (part_whole s) in
     let g = read_name s 0 (length s) m rest' b (omega arith) (omega arith) (part_whole s ∙ e) in
-    let both = sym f.name ∙ g.name in
-    let k : n.kind ≡ m.kind = cc in
-    let i : f.start ≡ g.start = cc in
-    let j : f.end ≡ g.end = cc in (
-      same_name n m k (sym f.content ∙ rw (i, j) g.content),
-      sym f.after ∙ rw j g.after,
+    let q = name_same (sym f.name ∙ g.name) in (
+      same_name n m q.0 (sym f.content ∙ rw (q.1, q.2) g.content),
+      sym f.after ∙ rw q.2 g.after,
     )
 
 -- no name is written in no bytes

@@ -12,10 +12,9 @@ use Rattle.der.specs.Places.{part, Bytes}
 use Rattle.der.specs.X690.{encoding}
 use Rattle.der.proofs.Laid.{read_laid, laid_read}
 use Rattle.der.proofs.Parts.{part_length, part_split, part_front}
-use Rattle.names.specs.declared.general.Name.TheVariants.{Found as Is}
 use Rattle.labels.specs.Names.{every}
 use Rattle.names.specs.General.{choices, among, General, Named}
-use Rattle.names.specs.Model.{is_kind, of_kind, general_name}
+use Rattle.names.specs.Model.{is_kind, of_kind, general_name, name_is}
 use Rattle.labels.proofs.Labels.{true_false}
 use Rattle.dns.proofs.Texts.{both}
 use Rattle.names.proofs.Laws.{name_at}
@@ -38,7 +37,7 @@ choice_low t e = low_of t choices refl e
 pub record ReadAt (s : List ℕ) (at to : ℕ) (n : General) (rest : List ℕ) : Type 0 where
   pub start : ℕ
   pub end : ℕ
-  pub name : general_name s at to ≡ Is n.kind start end
+  pub name : general_name s at to ≡ name_is n.kind start end
   pub content : part s start end ≡ n.content
   pub after : part s end to ≡ rest
   pub later : at < end
@@ -62,7 +61,7 @@ read_name s at to n rest k a l e =
     }
 
 -- what is read is a name that begins the rest
-pub named_at : (s : List ℕ) → Bytes s → (at to kind start end : ℕ) → general_name s at to ≡ Is kind start end
+pub named_at : (s : List ℕ) → Bytes s → (at to kind start end : ℕ) → general_name s at to ≡ name_is kind start end
     → Named (record { kind = kind; content = part s start end }) × ((part s at to ≡ encoding kind (part s start end) ++ part s end to) × ((at < end) × (end ≤ to)))
 unfolding is_kind
 named_at s b at to kind start end e =

@@ -2,8 +2,8 @@
 ghost use Rattle.std.specs.Prelude.{◌≡◌, ◌≤◌, length};
 ghost use Rattle.names.specs.Model.{is_kind, general_name, is_wanted, try_name, good_for, good_for_dns, good_for_ip};
 
-use der::Read;
-use dns::Answer;
+use der::Value;
+use refusal::Refusal;
 
 // The kinds, by their tags: RFC 5280, 4.2.1.6.
 pub const OTHER: u8 = 0xa0;
@@ -26,58 +26,40 @@ pub const REGISTERED: u8 = 0x88;
 
 // A general name: its kind, and where its content begins and ends. The next name begins where the content ends.
 #[derive(Clone, Copy)]
-pub enum Name {
-    Found { kind: u8, start: usize, end: usize },
-    Refused(u16),
+pub struct Name {
+    pub kind: u8,
+    pub start: usize,
+    pub end: usize,
 }
 
-// What one of several names comes to.
+// What one of several names comes to: the one that is looked for, or where the next begins.
 #[derive(Clone, Copy)]
 enum Tried {
     Good,
     Next(usize),
-    Refused(u16),
 }
 
-#[derive(Clone, Copy)]
-pub enum Verdict {
-    Good,
-    Refused(u16),
-}
-
+#[tactic(auto, unfolding(crate::specs::Model::is_kind, crate::specs::General::among, crate::specs::General::choices))]
 fn is_kind(tag: u8) -> bool
     ensures { result ≡ is_kind tag }
 {
-    match tag {
-        OTHER => true,
-        MAIL => true,
-        DNS => true,
-        X400 => true,
-        DIRECTORY => true,
-        EDI_PARTY => true,
-        URI => true,
-        IP => true,
-        REGISTERED => true,
-        _ => false,
-    }
+    matches!(
+        tag,
+        OTHER | MAIL | DNS | X400 | DIRECTORY | EDI_PARTY | URI | IP | REGISTERED
+    )
 }
 
 // The general name at `from`.
-pub fn general_name(s: &[u8], from: usize, to: usize) -> Name
+pub fn general_name(s: &[u8], from: usize, to: usize) -> Result<Name, Refusal>
     ensures { result ≡ general_name s.now from to }
 {
     match der::read_value(s, from, to) {
-        Read::Value { tag, start, end } => {
-            if is_kind(tag) {
-                return Name::Found {
-                    kind: tag,
-                    start,
-                    end,
-                };
-            }
-            Name::Refused(refusal::BAD_DER)
-        }
-        Read::Refused => Name::Refused(refusal::BAD_DER),
+        Some(Value { tag, start, end }) if is_kind(tag) => Ok(Name {
+            kind: tag,
+            start,
+            end,
+        }),
+        _ => Err(Refusal::BAD_DER),
     }
 }
 
@@ -92,65 +74,49 @@ fn is_wanted(s: &[u8], kind: u8, start: usize, end: usize, sought: u8, wanted: &
     }
     let p = &s[start..end];
     if kind == DNS {
-        match dns::match_wanted(p, wanted) {
-            Answer::Yes => true,
-            Answer::No => false,
-            Answer::Refused(_) => false,
-        }
+        dns::match_wanted(p, wanted).unwrap_or(false)
     } else {
         ip::same_address(p, wanted)
     }
 }
 
 // The name at `at`: the one that is looked for, or where the next begins.
-fn try_name(s: &[u8], at: usize, to: usize, sought: u8, wanted: &[u8]) -> Tried
+fn try_name(s: &[u8], at: usize, to: usize, sought: u8, wanted: &[u8]) -> Result<Tried, Refusal>
     ensures { result ≡ try_name s.now at to sought wanted.now }
 {
-    match general_name(s, at, to) {
-        Name::Found { kind, start, end } => {
-            if is_wanted(s, kind, start, end, sought, wanted) {
-                return Tried::Good;
-            }
-            Tried::Next(end)
-        }
-        Name::Refused(e) => Tried::Refused(e),
+    let Name { kind, start, end } = general_name(s, at, to)?;
+    if is_wanted(s, kind, start, end, sought, wanted) {
+        return Ok(Tried::Good);
     }
+    Ok(Tried::Next(end))
 }
 
 // Whether the names between the places, up to the first that cannot be read, have the one that is looked for.
-fn good_for(s: &[u8], from: usize, to: usize, sought: u8, wanted: &[u8]) -> Verdict
+fn good_for(s: &[u8], from: usize, to: usize, sought: u8, wanted: &[u8]) -> Result<(), Refusal>
     ensures { result ≡ good_for s.now from to sought wanted.now }
 {
     let mut at = from;
     while at < to {
-        match try_name(s, at, to, sought, wanted) {
-            Tried::Next(next) => {
-                at = next;
-            }
-            Tried::Good => {
-                return Verdict::Good;
-            }
-            Tried::Refused(e) => {
-                return Verdict::Refused(e);
-            }
+        match try_name(s, at, to, sought, wanted)? {
+            Tried::Next(next) => at = next,
+            Tried::Good => return Ok(()),
         }
     }
-    Verdict::Refused(refusal::CERT_NOT_VALID_FOR_NAME)
+    Err(Refusal::CERT_NOT_VALID_FOR_NAME)
 }
 
 // Whether the alternative names between the places are good for a DNS name.
-pub fn good_for_dns(s: &[u8], from: usize, to: usize, wanted: &[u8]) -> Verdict
+pub fn good_for_dns(s: &[u8], from: usize, to: usize, wanted: &[u8]) -> Result<(), Refusal>
     ensures { result ≡ good_for_dns s.now from to wanted.now }
 {
-    if labels::valid_wanted(wanted) {
-        good_for(s, from, to, DNS, wanted)
-    } else {
-        Verdict::Refused(refusal::MALFORMED_DNS_IDENTIFIER)
+    if !labels::valid_wanted(wanted) {
+        return Err(Refusal::MALFORMED_DNS_IDENTIFIER);
     }
+    good_for(s, from, to, DNS, wanted)
 }
 
 // Whether the alternative names between the places are good for an IP address.
-pub fn good_for_ip(s: &[u8], from: usize, to: usize, wanted: &[u8]) -> Verdict
+pub fn good_for_ip(s: &[u8], from: usize, to: usize, wanted: &[u8]) -> Result<(), Refusal>
     ensures { result ≡ good_for_ip s.now from to wanted.now }
 {
     good_for(s, from, to, IP, wanted)

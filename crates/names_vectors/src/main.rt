@@ -2,9 +2,9 @@
 // rest is the second text.
 #![tactic(auto)]
 
-use dns::Answer;
 use names::general;
-use names::general::{Name, Verdict};
+use names::general::Name;
+use refusal::Refusal;
 use std::io;
 use std::io::{BufWriter, Write};
 
@@ -16,13 +16,13 @@ fn number(to: &mut impl Write, n: usize) -> io::Result<()> {
     write!(to, " {n}")
 }
 
-fn refused(to: &mut impl Write, refusal: u16) -> io::Result<()> {
+fn refused(to: &mut impl Write, refusal: Refusal) -> io::Result<()> {
     match refusal {
-        refusal::BAD_DER => put(to, b" BadDer"),
-        refusal::CERT_NOT_VALID_FOR_NAME => put(to, b" CertNotValidForName"),
-        refusal::MALFORMED_DNS_IDENTIFIER => put(to, b" MalformedDnsIdentifier"),
-        refusal::MALFORMED_NAME_CONSTRAINT => put(to, b" MalformedNameConstraint"),
-        refusal::INVALID_NETWORK_MASK_CONSTRAINT => put(to, b" InvalidNetworkMaskConstraint"),
+        Refusal::BAD_DER => put(to, b" BadDer"),
+        Refusal::CERT_NOT_VALID_FOR_NAME => put(to, b" CertNotValidForName"),
+        Refusal::MALFORMED_DNS_IDENTIFIER => put(to, b" MalformedDnsIdentifier"),
+        Refusal::MALFORMED_NAME_CONSTRAINT => put(to, b" MalformedNameConstraint"),
+        Refusal::INVALID_NETWORK_MASK_CONSTRAINT => put(to, b" InvalidNetworkMaskConstraint"),
         _ => put(to, b" ?"),
     }
 }
@@ -31,29 +31,28 @@ fn truth(to: &mut impl Write, b: bool) -> io::Result<()> {
     if b { put(to, b" yes") } else { put(to, b" no") }
 }
 
-fn answer(to: &mut impl Write, a: Answer) -> io::Result<()> {
+fn answer(to: &mut impl Write, a: Result<bool, Refusal>) -> io::Result<()> {
     match a {
-        Answer::Yes => put(to, b" yes"),
-        Answer::No => put(to, b" no"),
-        Answer::Refused(e) => refused(to, e),
+        Ok(b) => truth(to, b),
+        Err(e) => refused(to, e),
     }
 }
 
-fn verdict(to: &mut impl Write, v: Verdict) -> io::Result<()> {
+fn verdict(to: &mut impl Write, v: Result<(), Refusal>) -> io::Result<()> {
     match v {
-        Verdict::Good => put(to, b" good"),
-        Verdict::Refused(e) => refused(to, e),
+        Ok(()) => put(to, b" good"),
+        Err(e) => refused(to, e),
     }
 }
 
-fn name(to: &mut impl Write, n: Name) -> io::Result<()> {
+fn name(to: &mut impl Write, n: Result<Name, Refusal>) -> io::Result<()> {
     match n {
-        Name::Found { kind, start, end } => {
+        Ok(Name { kind, start, end }) => {
             number(to, kind as usize)?;
             number(to, start)?;
             number(to, end)
         }
-        Name::Refused(e) => refused(to, e),
+        Err(e) => refused(to, e),
     }
 }
 
@@ -105,23 +104,19 @@ fn ask(to: &mut impl Write, question: u8, a: &[u8], b: &[u8]) -> io::Result<()> 
 }
 
 fn show(to: &mut impl Write, s: &[u8]) -> io::Result<()> {
-    if s.len() < 2 {
+    let [question, size, texts @ ..] = s else {
         return Ok(());
+    };
+    match texts.split_at_checked(*size as usize) {
+        Some((a, b)) => ask(to, *question, a, b),
+        None => Ok(()),
     }
-    let split = 2 + s[1] as usize;
-    if s.len() < split {
-        return Ok(());
-    }
-    ask(to, s[0], &s[2..split], &s[split..])
 }
 
 fn show_all(to: &mut impl Write, text: &[u8], out: &mut [u8]) -> io::Result<()> {
-    let mut at: usize = 0;
-    while at < text.len() {
-        let end = hexlines::line_end(text, at);
-        let count = hexlines::bytes(text, at, end, out);
+    for line in text.split_inclusive(|b| *b == b'\n') {
+        let count = hexlines::bytes(line, 0, hexlines::line_end(line, 0), out);
         show(to, &out[..count])?;
-        at = end + 1;
     }
     Ok(())
 }

@@ -13,9 +13,7 @@ use Rattle.parts.specs.Model.{same_parts}
 use Rattle.der.proofs.Invert.{peel}
 use Rattle.parts.proofs.Equal.{same_yes, same_equal}
 use Rattle.cert.specs.declared.Certificate.{Certificate}
-use Rattle.cert.specs.declared.Reading.{Reading}
-use Rattle.cert.specs.declared.Reading.TheVariants.{Accepted, Refused as NoCertificate}
-use Rattle.cert.specs.Model.{read_certificate}
+use Rattle.cert.specs.Model.{read_certificate, Reading}
 use Rattle.der.proofs.Parts.{part_whole}
 use Rattle.cert.proofs.Laws.{read_inside}
 use Rattle.cert.proofs.Refusals.{ReadingFair, reading_not, read_fair}
@@ -30,6 +28,7 @@ use Rattle.checks.proofs.Skeletons.{reads_certificate, certificate_reads}
 use Rattle.checks.specs.Model.{itself}
 use Rattle.checks.proofs.Roles.{is_issuer, below_of}
 use Rattle.checks.proofs.Alone.{own_sound, own_complete}
+use Rattle.std.specs.Prelude.{Ok, Err}
 
 -- ---- a key that is in no list
 true_false : true ≡ false → ⊥
@@ -56,10 +55,10 @@ trusted_listed s a b (x ∷ xs) t = go (same_parts s a b x 0 (length x)) refl (t
     go false e r = r
 
 -- ---- one certificate
-reading : (g : Reading) (k : Certificate → ℕ) → ReadingFair g → on_reading g itself k ≡ 0 → (c : Certificate) × (g ≡ Accepted c) × (k c ≡ 0)
+reading : (g : Reading) (k : Certificate → ℕ) → ReadingFair g → on_reading g itself k ≡ 0 → (c : Certificate) × (g ≡ Ok c) × (k c ≡ 0)
 unfolding on_reading
-reading (Accepted c) k f e = (c, refl, e)
-reading (NoCertificate x) k (reading_not f) e = absurd (omega arith)
+reading (Ok c) k f e = (c, refl, e)
+reading (Err x) k (reading_not f) e = absurd (omega arith)
 
 module _ (s : List ℕ) (b : Bytes s) (distrusted : List (List ℕ)) (time : ℕ) (wanted : List ℕ) (demanded : Bool) (role : Role) where
   pub check_sound : checked s distrusted time wanted demanded (is_issuer role) (below_of role) ≡ 0 → (o : Contents) × IsCertificate s o × Fit distrusted time wanted demanded role o
@@ -80,7 +79,7 @@ module _ (s : List ℕ) (b : Bytes s) (distrusted : List (List ℕ)) (time : ℕ
         },
       )
 
-  fits_checked : (c : Certificate) → read_certificate s true ≡ Accepted c → Fit distrusted time wanted demanded role (contents_of s c) → checked s distrusted time wanted demanded (is_issuer role) (below_of role) ≡ 0
+  fits_checked : (c : Certificate) → read_certificate s true ≡ Ok c → Fit distrusted time wanted demanded role (contents_of s c) → checked s distrusted time wanted demanded (is_issuer role) (below_of role) ≡ 0
   unfolding checked_as on_reading
   fits_checked c r f =
       let t = trusted_listed s c.key.start c.key.end distrusted f.trusted in

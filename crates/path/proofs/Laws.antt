@@ -5,10 +5,10 @@ use mathlib.Core.List.{List}
 use mathlib.Core.Bool.{Bool, true, false}
 use lib.ListN.{get_or}
 use borrow.Author.Tests.{eq-eqb, ne_eqb}
-use Rattle.cert.specs.declared.Reading.{Reading}
 use Rattle.lent.specs.Lent.{certificate_of, pre, newest}
 use Rattle.path.specs.Model.{depth_of, checked_as, check_in}
 use Rattle.lent.proofs.Laws.{lower_length}
+use Rattle.cert.specs.Model.{Reading}
 
 module _ (known : ℕ → Reading) (issuers : List (List ℕ)) (end : List ℕ) (path : List ℕ) (d : ℕ) where
   module _ (anchors : ℕ) (distrusted : List (List ℕ)) (time : ℕ) (wanted : List ℕ) (demanded : Bool) {n : ℕ} {s : List ℕ} {r : Reading} (at : n ≡ get_or path d 0) (is : s ≡ certificate_of issuers end anchors n) (reads : r ≡ known n) where

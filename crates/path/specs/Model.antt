@@ -1,12 +1,10 @@
 -- What the code answers, as functions of the lent bytes and of what is known of each certificate, by number: the same tests in the same order.
 -- Each has an abbreviation for the case that what is known is what is read of the bytes. A path is a list of numbers, the newest first, the end
 -- entity last. Where a number is a refusal or none, 0 is none.
-use Rattle.std.specs.Prelude.{ℕ, ◌-◌, List, [], ◌∷◌, Bool, true, false, cond, length, eqb}
+use Rattle.std.specs.Prelude.{ℕ, ◌-◌, List, [], ◌∷◌, Bool, true, false, cond, length, eqb, Ok, Err}
 use Rattle.refusal.specs.Refusals.{cert_distrusted}
 use Rattle.cert.specs.declared.Certificate.{Certificate}
-use Rattle.cert.specs.declared.Reading.{Reading}
-use Rattle.cert.specs.declared.Reading.TheVariants.{Accepted, Refused as NoCertificate}
-use Rattle.cert.specs.Model.{read_certificate}
+use Rattle.cert.specs.Model.{read_certificate, Reading}
 use Rattle.checks.specs.Model.{itself, own_of}
 use Rattle.lent.specs.Lent.{certificate_of, readings_of, listed, newest}
 
@@ -17,8 +15,8 @@ depth_of [] = 0
 depth_of (n ∷ ns) = length ns
 
 unfoldable pub on_reading : {R : Type 0} → Reading → (ℕ → R) → (Certificate → R) → R
-on_reading (Accepted c) other k = k c
-on_reading (NoCertificate e) other k = other e
+on_reading (Ok c) other k = k c
+on_reading (Err e) other k = other e
 
 -- ---- one certificate
 unfoldable pub checked_as : Reading → List ℕ → List (List ℕ) → ℕ → List ℕ → Bool → Bool → ℕ → ℕ

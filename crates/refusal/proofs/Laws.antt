@@ -9,7 +9,8 @@ use native.Mathlib.Omega.{arith}
 use native.Mathlib.Nat.{max-eq_left, max-eq_right}
 use borrow.Author.Tests.{ltb-true, ltb-false, eqb-true, lt-ltb, le-ltb, ne_eqb}
 use Rattle.refusal.specs.Refusals.{has, rank_of, is_fatal, unknown_issuer, maximum_signature_checks_exceeded, maximum_path_build_calls_exceeded, maximum_name_constraint_comparisons_exceeded}
-use Rattle.refusal.specs.Model.{worse_of}
+use Rattle.std.specs.Prelude.{zero, suc, Ok, Err}
+use Rattle.refusal.specs.Model.{worse_of, outcome}
 
 -- ---- a number past the last refusal has rank 0
 past_eqb : (n k : ℕ) → k ≤ n → (m : ℕ) → ltb m k ≡ true → eqb n m ≡ false
@@ -117,3 +118,23 @@ mild_not_fatal n m = go (is_fatal n) refl
         (⊎_elim (λ (q : n ≡ maximum_path_build_calls_exceeded). omega arith) (λ (q : n ≡ maximum_name_constraint_comparisons_exceeded). omega arith))
         ((fatal_exactly n).0 e))
     go false e = refl
+
+-- ---- a number as an outcome: 0 is no refusal, and every other number is one
+pub outcome_none : outcome 0 ≡ Ok tt
+unfolding outcome
+outcome_none = refl
+
+pub outcome_some : (e : ℕ) → 0 < e → outcome e ≡ Err e
+unfolding outcome
+outcome_some zero h = absurd (omega (arith, h))
+outcome_some (suc e) h = refl
+
+pub outcome_ok : (e : ℕ) → outcome e ≡ Ok tt → e ≡ 0
+unfolding outcome
+outcome_ok zero h = refl
+outcome_ok (suc e) h = cc h
+
+pub outcome_err : (e f : ℕ) → outcome e ≡ Err f → e ≡ f
+unfolding outcome
+outcome_err zero f h = cc h
+outcome_err (suc e) f h = cc h

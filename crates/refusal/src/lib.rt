@@ -1,151 +1,223 @@
-// Every refusal as a number with a name, 0 for none; the rank of each; which of them end a search.
+// Every refusal by its number; the rank of each; which of them end a search.
 #![tactic(auto)]
 
 ghost use Rattle.std.specs.Prelude.{◌≡◌};
 ghost use Rattle.refusal.specs.Refusals.{rank_of, is_fatal};
 ghost use Rattle.refusal.specs.Model.{worse_of};
 
-pub const CERT_NOT_VALID_YET: u16 = 1;
+use std::marker::Model;
 
-pub const CERT_EXPIRED: u16 = 2;
+// Why something is refused: a number, since callers may give any number of their own as a refusal. Clauses see the number.
+#[derive(Clone, Copy, PartialEq, Eq)]
+pub struct Refusal(u16);
 
-pub const CERT_NOT_VALID_FOR_NAME: u16 = 3;
+impl Model for Refusal {
+    ghost use Rattle.std.specs.Prelude.{ℕ};
 
-pub const CERT_DISTRUSTED: u16 = 4;
+    ghost Value = { ℕ };
 
-pub const CERT_REVOKED: u16 = 5;
+    ghost view = { λ r. r.0 };
 
-pub const UNKNOWN_REVOCATION_STATUS: u16 = 6;
+    ghost inverse = { λ n. record { 0 = n } };
+}
 
-pub const CRL_EXPIRED: u16 = 7;
+impl From<u16> for Refusal {
+    ghost from_gives = { λ n r. r ≡ n };
 
-pub const INVALID_SIGNATURE_FOR_PUBLIC_KEY: u16 = 8;
+    fn from(number: u16) -> Refusal {
+        Refusal(number)
+    }
+}
 
-pub const INVALID_CRL_SIGNATURE_FOR_PUBLIC_KEY: u16 = 9;
+impl From<Refusal> for u16 {
+    ghost from_gives = { λ r n. n ≡ r };
 
-pub const SIGNATURE_ALGORITHM_MISMATCH: u16 = 10;
+    fn from(refusal: Refusal) -> u16 {
+        refusal.0
+    }
+}
 
-pub const EMPTY_EKU_EXTENSION: u16 = 11;
+impl Refusal {
+    pub const CERT_NOT_VALID_YET: Refusal = Refusal(1);
 
-pub const REQUIRED_EKU_NOT_FOUND: u16 = 12;
+    pub const CERT_EXPIRED: Refusal = Refusal(2);
 
-pub const NAME_CONSTRAINT_VIOLATION: u16 = 13;
+    pub const CERT_NOT_VALID_FOR_NAME: Refusal = Refusal(3);
 
-pub const PATH_LEN_CONSTRAINT_VIOLATED: u16 = 14;
+    pub const CERT_DISTRUSTED: Refusal = Refusal(4);
 
-pub const CA_USED_AS_END_ENTITY: u16 = 15;
+    pub const CERT_REVOKED: Refusal = Refusal(5);
 
-pub const END_ENTITY_USED_AS_CA: u16 = 16;
+    pub const UNKNOWN_REVOCATION_STATUS: Refusal = Refusal(6);
 
-pub const ISSUER_NOT_CRL_SIGNER: u16 = 17;
+    pub const CRL_EXPIRED: Refusal = Refusal(7);
 
-pub const INVALID_CERT_VALIDITY: u16 = 18;
+    pub const INVALID_SIGNATURE_FOR_PUBLIC_KEY: Refusal = Refusal(8);
 
-pub const INVALID_NETWORK_MASK_CONSTRAINT: u16 = 19;
+    pub const INVALID_CRL_SIGNATURE_FOR_PUBLIC_KEY: Refusal = Refusal(9);
 
-pub const INVALID_SERIAL_NUMBER: u16 = 20;
+    pub const SIGNATURE_ALGORITHM_MISMATCH: Refusal = Refusal(10);
 
-pub const INVALID_CRL_NUMBER: u16 = 21;
+    pub const EMPTY_EKU_EXTENSION: Refusal = Refusal(11);
 
-pub const UNSUPPORTED_SIGNATURE_ALGORITHM_FOR_PUBLIC_KEY: u16 = 22;
+    pub const REQUIRED_EKU_NOT_FOUND: Refusal = Refusal(12);
 
-pub const UNSUPPORTED_CRL_SIGNATURE_ALGORITHM_FOR_PUBLIC_KEY: u16 = 23;
+    pub const NAME_CONSTRAINT_VIOLATION: Refusal = Refusal(13);
 
-pub const UNSUPPORTED_SIGNATURE_ALGORITHM: u16 = 24;
+    pub const PATH_LEN_CONSTRAINT_VIOLATED: Refusal = Refusal(14);
 
-pub const UNSUPPORTED_CRL_SIGNATURE_ALGORITHM: u16 = 25;
+    pub const CA_USED_AS_END_ENTITY: Refusal = Refusal(15);
 
-pub const UNSUPPORTED_CRITICAL_EXTENSION: u16 = 26;
+    pub const END_ENTITY_USED_AS_CA: Refusal = Refusal(16);
 
-pub const UNSUPPORTED_CERT_VERSION: u16 = 27;
+    pub const ISSUER_NOT_CRL_SIGNER: Refusal = Refusal(17);
 
-pub const UNSUPPORTED_CRL_VERSION: u16 = 28;
+    pub const INVALID_CERT_VALIDITY: Refusal = Refusal(18);
 
-pub const UNSUPPORTED_DELTA_CRL: u16 = 29;
+    pub const INVALID_NETWORK_MASK_CONSTRAINT: Refusal = Refusal(19);
 
-pub const UNSUPPORTED_INDIRECT_CRL: u16 = 30;
+    pub const INVALID_SERIAL_NUMBER: Refusal = Refusal(20);
 
-pub const UNSUPPORTED_NAME_TYPE: u16 = 31;
+    pub const INVALID_CRL_NUMBER: Refusal = Refusal(21);
 
-pub const UNSUPPORTED_REVOCATION_REASON: u16 = 32;
+    pub const UNSUPPORTED_SIGNATURE_ALGORITHM_FOR_PUBLIC_KEY: Refusal = Refusal(22);
 
-pub const UNSUPPORTED_REVOCATION_REASONS_PARTITIONING: u16 = 33;
+    pub const UNSUPPORTED_CRL_SIGNATURE_ALGORITHM_FOR_PUBLIC_KEY: Refusal = Refusal(23);
 
-pub const UNSUPPORTED_CRL_ISSUING_DISTRIBUTION_POINT: u16 = 34;
+    pub const UNSUPPORTED_SIGNATURE_ALGORITHM: Refusal = Refusal(24);
 
-pub const MAXIMUM_PATH_DEPTH_EXCEEDED: u16 = 35;
+    pub const UNSUPPORTED_CRL_SIGNATURE_ALGORITHM: Refusal = Refusal(25);
 
-pub const MALFORMED_DNS_IDENTIFIER: u16 = 36;
+    pub const UNSUPPORTED_CRITICAL_EXTENSION: Refusal = Refusal(26);
 
-pub const MALFORMED_NAME_CONSTRAINT: u16 = 37;
+    pub const UNSUPPORTED_CERT_VERSION: Refusal = Refusal(27);
 
-pub const MALFORMED_EXTENSIONS: u16 = 38;
+    pub const UNSUPPORTED_CRL_VERSION: Refusal = Refusal(28);
 
-pub const TRAILING_BIT_STRING: u16 = 39;
+    pub const UNSUPPORTED_DELTA_CRL: Refusal = Refusal(29);
 
-pub const TRAILING_BOOL: u16 = 40;
+    pub const UNSUPPORTED_INDIRECT_CRL: Refusal = Refusal(30);
 
-pub const TRAILING_CERTIFICATE: u16 = 41;
+    pub const UNSUPPORTED_NAME_TYPE: Refusal = Refusal(31);
 
-pub const TRAILING_CERTIFICATE_EXTENSIONS: u16 = 42;
+    pub const UNSUPPORTED_REVOCATION_REASON: Refusal = Refusal(32);
 
-pub const TRAILING_CERTIFICATE_TBS_CERTIFICATE: u16 = 43;
+    pub const UNSUPPORTED_REVOCATION_REASONS_PARTITIONING: Refusal = Refusal(33);
 
-pub const TRAILING_CERT_REVOCATION_LIST: u16 = 44;
+    pub const UNSUPPORTED_CRL_ISSUING_DISTRIBUTION_POINT: Refusal = Refusal(34);
 
-pub const TRAILING_CERT_REVOCATION_LIST_EXTENSION: u16 = 45;
+    pub const MAXIMUM_PATH_DEPTH_EXCEEDED: Refusal = Refusal(35);
 
-pub const TRAILING_CRL_DISTRIBUTION_POINT: u16 = 46;
+    pub const MALFORMED_DNS_IDENTIFIER: Refusal = Refusal(36);
 
-pub const TRAILING_COMMON_NAME_INNER: u16 = 47;
+    pub const MALFORMED_NAME_CONSTRAINT: Refusal = Refusal(37);
 
-pub const TRAILING_COMMON_NAME_OUTER: u16 = 48;
+    pub const MALFORMED_EXTENSIONS: Refusal = Refusal(38);
 
-pub const TRAILING_DISTRIBUTION_POINT_NAME: u16 = 49;
+    pub const TRAILING_BIT_STRING: Refusal = Refusal(39);
 
-pub const TRAILING_EXTENSION: u16 = 50;
+    pub const TRAILING_BOOL: Refusal = Refusal(40);
 
-pub const TRAILING_GENERAL_NAME: u16 = 51;
+    pub const TRAILING_CERTIFICATE: Refusal = Refusal(41);
 
-pub const TRAILING_REVOCATION_REASON: u16 = 52;
+    pub const TRAILING_CERTIFICATE_EXTENSIONS: Refusal = Refusal(42);
 
-pub const TRAILING_SIGNATURE: u16 = 53;
+    pub const TRAILING_CERTIFICATE_TBS_CERTIFICATE: Refusal = Refusal(43);
 
-pub const TRAILING_SIGNATURE_ALGORITHM: u16 = 54;
+    pub const TRAILING_CERT_REVOCATION_LIST: Refusal = Refusal(44);
 
-pub const TRAILING_SIGNED_DATA: u16 = 55;
+    pub const TRAILING_CERT_REVOCATION_LIST_EXTENSION: Refusal = Refusal(45);
 
-pub const TRAILING_SUBJECT_PUBLIC_KEY_INFO: u16 = 56;
+    pub const TRAILING_CRL_DISTRIBUTION_POINT: Refusal = Refusal(46);
 
-pub const TRAILING_TIME: u16 = 57;
+    pub const TRAILING_COMMON_NAME_INNER: Refusal = Refusal(47);
 
-pub const TRAILING_TRUST_ANCHOR_V1: u16 = 58;
+    pub const TRAILING_COMMON_NAME_OUTER: Refusal = Refusal(48);
 
-pub const TRAILING_TRUST_ANCHOR_V1_TBS_CERTIFICATE: u16 = 59;
+    pub const TRAILING_DISTRIBUTION_POINT_NAME: Refusal = Refusal(49);
 
-pub const TRAILING_U8: u16 = 60;
+    pub const TRAILING_EXTENSION: Refusal = Refusal(50);
 
-pub const TRAILING_REVOKED_CERTIFICATE: u16 = 61;
+    pub const TRAILING_GENERAL_NAME: Refusal = Refusal(51);
 
-pub const TRAILING_REVOKED_CERTIFICATE_EXTENSION: u16 = 62;
+    pub const TRAILING_REVOCATION_REASON: Refusal = Refusal(52);
 
-pub const TRAILING_REVOKED_CERT_ENTRY: u16 = 63;
+    pub const TRAILING_SIGNATURE: Refusal = Refusal(53);
 
-pub const TRAILING_ISSUING_DISTRIBUTION_POINT: u16 = 64;
+    pub const TRAILING_SIGNATURE_ALGORITHM: Refusal = Refusal(54);
 
-pub const EXTENSION_VALUE_INVALID: u16 = 65;
+    pub const TRAILING_SIGNED_DATA: Refusal = Refusal(55);
 
-pub const BAD_DER_TIME: u16 = 66;
+    pub const TRAILING_SUBJECT_PUBLIC_KEY_INFO: Refusal = Refusal(56);
 
-pub const BAD_DER: u16 = 67;
+    pub const TRAILING_TIME: Refusal = Refusal(57);
 
-pub const UNKNOWN_ISSUER: u16 = 68;
+    pub const TRAILING_TRUST_ANCHOR_V1: Refusal = Refusal(58);
 
-pub const MAXIMUM_SIGNATURE_CHECKS_EXCEEDED: u16 = 69;
+    pub const TRAILING_TRUST_ANCHOR_V1_TBS_CERTIFICATE: Refusal = Refusal(59);
 
-pub const MAXIMUM_PATH_BUILD_CALLS_EXCEEDED: u16 = 70;
+    pub const TRAILING_U8: Refusal = Refusal(60);
 
-pub const MAXIMUM_NAME_CONSTRAINT_COMPARISONS_EXCEEDED: u16 = 71;
+    pub const TRAILING_REVOKED_CERTIFICATE: Refusal = Refusal(61);
+
+    pub const TRAILING_REVOKED_CERTIFICATE_EXTENSION: Refusal = Refusal(62);
+
+    pub const TRAILING_REVOKED_CERT_ENTRY: Refusal = Refusal(63);
+
+    pub const TRAILING_ISSUING_DISTRIBUTION_POINT: Refusal = Refusal(64);
+
+    pub const EXTENSION_VALUE_INVALID: Refusal = Refusal(65);
+
+    pub const BAD_DER_TIME: Refusal = Refusal(66);
+
+    pub const BAD_DER: Refusal = Refusal(67);
+
+    pub const UNKNOWN_ISSUER: Refusal = Refusal(68);
+
+    pub const MAXIMUM_SIGNATURE_CHECKS_EXCEEDED: Refusal = Refusal(69);
+
+    pub const MAXIMUM_PATH_BUILD_CALLS_EXCEEDED: Refusal = Refusal(70);
+
+    pub const MAXIMUM_NAME_CONSTRAINT_COMPARISONS_EXCEEDED: Refusal = Refusal(71);
+
+    // The number, as C sees it.
+    pub fn number(self) -> u16
+        ensures { result ≡ self }
+    {
+        self.0
+    }
+
+    // The rank; 0 for a number that is no refusal.
+    pub fn rank(self) -> u16
+        ensures { result ≡ rank_of self }
+    {
+        RANKS.get(self.number() as usize).copied().unwrap_or(0)
+    }
+
+    // Whether it ends the search at once.
+    #[tactic(auto, unfolding(crate::specs::Refusals::is_fatal))]
+    pub fn is_fatal(self) -> bool
+        ensures { result ≡ is_fatal self }
+    {
+        matches!(
+            self,
+            Refusal::MAXIMUM_SIGNATURE_CHECKS_EXCEEDED
+                | Refusal::MAXIMUM_PATH_BUILD_CALLS_EXCEEDED
+                | Refusal::MAXIMUM_NAME_CONSTRAINT_COMPARISONS_EXCEEDED
+        )
+    }
+
+    // The one to keep of two met in this order: that of higher rank, the earlier where ranks are equal.
+    pub fn worse(self, later: Refusal) -> Refusal
+        ensures { result ≡ worse_of self later }
+    {
+        if self.rank() < later.rank() {
+            later
+        } else {
+            self
+        }
+    }
+}
 
 // The rank of each, by its number.
 const RANKS: [u16; 72] = [
@@ -222,39 +294,3 @@ const RANKS: [u16; 72] = [
     0, // MAXIMUM_PATH_BUILD_CALLS_EXCEEDED
     0, // MAXIMUM_NAME_CONSTRAINT_COMPARISONS_EXCEEDED
 ];
-
-// The rank of a refusal; 0 for a number that is none.
-pub fn rank(refusal: u16) -> u16
-    ensures { result ≡ rank_of refusal }
-{
-    if refusal < 72 {
-        return RANKS[refusal as usize];
-    }
-    0
-}
-
-// Whether a refusal ends the search at once.
-pub fn fatal(refusal: u16) -> bool
-    ensures { result ≡ is_fatal refusal }
-{
-    if refusal == MAXIMUM_SIGNATURE_CHECKS_EXCEEDED {
-        return true;
-    }
-    if refusal == MAXIMUM_PATH_BUILD_CALLS_EXCEEDED {
-        return true;
-    }
-    if refusal == MAXIMUM_NAME_CONSTRAINT_COMPARISONS_EXCEEDED {
-        return true;
-    }
-    false
-}
-
-// The refusal to keep of two met in this order: that of higher rank, the earlier where ranks are equal.
-pub fn worse(a: u16, b: u16) -> u16
-    ensures { result ≡ worse_of a b }
-{
-    if rank(a) < rank(b) {
-        return b;
-    }
-    a
-}

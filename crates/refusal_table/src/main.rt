@@ -1,8 +1,7 @@
 // Prints the table of refusals. The input has the Rust's names, a line each, in the order of the numbers; rank and end are this library's answers.
 #![tactic(auto)]
 
-ghost use Rattle.std.specs.Prelude.{◌≤◌, length};
-
+use refusal::Refusal;
 use std::io;
 use std::io::{BufWriter, Write};
 
@@ -14,33 +13,25 @@ fn put_number(to: &mut impl Write, n: u16) -> io::Result<()> {
     write!(to, "{n}")
 }
 
-fn row(to: &mut impl Write, refusal: u16, name: &[u8]) -> io::Result<()> {
+fn row(to: &mut impl Write, refusal: Refusal, name: &[u8]) -> io::Result<()> {
     put(to, b"| ")?;
-    put_number(to, refusal)?;
+    put_number(to, refusal.number())?;
     put(to, b" | ")?;
     put(to, name)?;
     put(to, b" | ")?;
-    put_number(to, refusal::rank(refusal))?;
-    if refusal::fatal(refusal) {
+    put_number(to, refusal.rank())?;
+    if refusal.is_fatal() {
         put(to, b" | yes |\n")
     } else {
         put(to, b" | no |\n")
     }
 }
 
-fn rows(to: &mut impl Write, names: &[u8]) -> io::Result<()>
-    requires { length names.now ≤ 4096 }
-{
-    let mut number: u16 = 0;
-    let mut from: usize = 0;
-    let mut i: usize = 0;
-    while i < names.len() {
-        if names[i] == b'\n' {
-            number += 1;
-            row(to, number, &names[from..i])?;
-            from = i + 1;
+fn rows(to: &mut impl Write, names: &[u8]) -> io::Result<()> {
+    for (number, line) in (1..=u16::MAX).zip(names.split_inclusive(|b| *b == b'\n')) {
+        if let Some(name) = line.strip_suffix(b"\n") {
+            row(to, Refusal::from(number), name)?;
         }
-        i += 1;
     }
     Ok(())
 }

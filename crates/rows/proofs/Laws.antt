@@ -6,10 +6,10 @@ use mathlib.Core.Bool.{Bool, true, false, cond, not}
 use lib.Dec.{eqb}
 use Rattle.extensions.specs.declared.Slot.{Slot}
 use Rattle.cert.specs.declared.Certificate.{Certificate}
-use Rattle.cert.specs.declared.Reading.{Reading}
-use Rattle.cert.specs.declared.Reading.TheVariants.{Accepted, Refused as NoCertificate}
 use Rattle.rows.specs.declared.Outline.{Outline}
 use Rattle.rows.specs.Model.{outline_of, outlined, on_outline, span_in, slot_in, known_in, certificate_in, row_reading}
+use Rattle.std.specs.Prelude.{Ok, Err}
+use Rattle.cert.specs.Model.{Reading}
 
 -- a flag that was written is read
 flag_back : (b : Bool) → not (eqb (cond b 1 0) 0) ≡ b
@@ -21,9 +21,9 @@ slot_back x f e = ap (λ (b : Bool). record { known = b; start = x.start; end = 
 
 -- the row that holds a certificate's places says that it was accepted, with these places
 module _ (c : Certificate) (u n b l d p : ℕ) (e₁ : u ≡ cond c.known.key_usage.known 1 0) (e₂ : n ≡ cond c.known.alternative_name.known 1 0) (e₃ : b ≡ cond c.known.basic_constraints.known 1 0) (e₄ : l ≡ cond c.known.name_constraints.known 1 0) (e₅ : d ≡ cond c.known.distribution_points.known 1 0) (e₆ : p ≡ cond c.known.key_purposes.known 1 0) where
-  pub row_accepted : row_reading (0 ∷ c.signed.start ∷ c.signed.end ∷ c.algorithm.start ∷ c.algorithm.end ∷ c.signature.start ∷ c.signature.end ∷ c.serial.start ∷ c.serial.end ∷ c.inner_algorithm.start ∷ c.inner_algorithm.end ∷ c.issuer.start ∷ c.issuer.end ∷ c.validity.start ∷ c.validity.end ∷ c.subject.start ∷ c.subject.end ∷ c.key.start ∷ c.key.end ∷ u ∷ c.known.key_usage.start ∷ c.known.key_usage.end ∷ n ∷ c.known.alternative_name.start ∷ c.known.alternative_name.end ∷ b ∷ c.known.basic_constraints.start ∷ c.known.basic_constraints.end ∷ l ∷ c.known.name_constraints.start ∷ c.known.name_constraints.end ∷ d ∷ c.known.distribution_points.start ∷ c.known.distribution_points.end ∷ p ∷ c.known.key_purposes.start ∷ c.known.key_purposes.end ∷ []) ≡ Accepted c
+  pub row_accepted : row_reading (0 ∷ c.signed.start ∷ c.signed.end ∷ c.algorithm.start ∷ c.algorithm.end ∷ c.signature.start ∷ c.signature.end ∷ c.serial.start ∷ c.serial.end ∷ c.inner_algorithm.start ∷ c.inner_algorithm.end ∷ c.issuer.start ∷ c.issuer.end ∷ c.validity.start ∷ c.validity.end ∷ c.subject.start ∷ c.subject.end ∷ c.key.start ∷ c.key.end ∷ u ∷ c.known.key_usage.start ∷ c.known.key_usage.end ∷ n ∷ c.known.alternative_name.start ∷ c.known.alternative_name.end ∷ b ∷ c.known.basic_constraints.start ∷ c.known.basic_constraints.end ∷ l ∷ c.known.name_constraints.start ∷ c.known.name_constraints.end ∷ d ∷ c.known.distribution_points.start ∷ c.known.distribution_points.end ∷ p ∷ c.known.key_purposes.start ∷ c.known.key_purposes.end ∷ []) ≡ Ok c
   unfolding row_reading certificate_in known_in span_in slot_in
-  row_accepted = λ i. Accepted (record {
+  row_accepted = λ i. Ok (record {
     signed = c.signed;
     algorithm = c.algorithm;
     signature = c.signature;
@@ -44,7 +44,7 @@ module _ (c : Certificate) (u n b l d p : ℕ) (e₁ : u ≡ cond c.known.key_us
   })
 
 -- an outline that was gone on from
-pub on_outline_lem : {R : Type 0} {r : R} (g : Reading) (other : ℕ → R) (k : Outline → R) → on_outline (outlined g) other k ≡ r → ((e : ℕ) → other e ≡ r → ⊥) → (c : Certificate) × (g ≡ Accepted c) × (k (outline_of c) ≡ r)
+pub on_outline_lem : {R : Type 0} {r : R} (g : Reading) (other : ℕ → R) (k : Outline → R) → on_outline (outlined g) other k ≡ r → ((e : ℕ) → other e ≡ r → ⊥) → (c : Certificate) × (g ≡ Ok c) × (k (outline_of c) ≡ r)
 unfolding on_outline outlined
-on_outline_lem (Accepted c) other k e n = (c, refl, e)
-on_outline_lem (NoCertificate x) other k e n = absurd (n x e)
+on_outline_lem (Ok c) other k e n = (c, refl, e)
+on_outline_lem (Err x) other k e n = absurd (n x e)

@@ -1,15 +1,12 @@
 -- Rows of numbers, and what they say was read of a certificate.
-use Rattle.std.specs.Prelude.{ℕ, ◌+◌, ◌-◌, List, cond, not, get_or, ltb, eqb}
+use Rattle.std.specs.Prelude.{ℕ, ◌+◌, ◌-◌, List, cond, not, get_or, ltb, eqb, Ok, Err, Result}
 use Rattle.refusal.specs.Refusals.{bad_der}
 use Rattle.der.specs.declared.Span.{Span}
 use Rattle.extensions.specs.declared.Slot.{Slot}
 use Rattle.extensions.specs.declared.Known.{Known}
 use Rattle.cert.specs.declared.Certificate.{Certificate}
-use Rattle.cert.specs.declared.Reading.{Reading}
-use Rattle.cert.specs.declared.Reading.TheVariants.{Accepted, Refused}
 use Rattle.rows.specs.declared.Outline.{Outline}
-use Rattle.rows.specs.declared.Outlined.{Outlined}
-use Rattle.rows.specs.declared.Outlined.TheVariants.{Is, Refused as NoOutline}
+use Rattle.cert.specs.Model.{Reading}
 
 unfoldable pub span_in : List ℕ → ℕ → Span
 span_in row k = record { start = get_or row k 0; end = get_or row (k + 1) 0 }
@@ -47,8 +44,8 @@ certificate_in row =
 unfoldable pub row_reading : List ℕ → Reading
 row_reading row =
     cond (eqb (get_or row 0 0) 0)
-    (Accepted (certificate_in row))
-    (cond (ltb 65535 (get_or row 0 0 - 1)) (Refused bad_der) (Refused (get_or row 0 0 - 1)))
+    (Ok (certificate_in row))
+    (cond (ltb 65535 (get_or row 0 0 - 1)) (Err bad_der) (Err (get_or row 0 0 - 1)))
 
 -- the parts of a reading that the search uses
 abbrev pub outline_of : Certificate → Outline
@@ -62,10 +59,10 @@ outline_of c = record {
   constrained = c.known.name_constraints.known;
 }
 
-unfoldable pub outlined : Reading → Outlined
-outlined (Accepted c) = Is (outline_of c)
-outlined (Refused e) = NoOutline e
+unfoldable pub outlined : Reading → Result Outline ℕ
+outlined (Ok c) = Ok (outline_of c)
+outlined (Err e) = Err e
 
-unfoldable pub on_outline : {R : Type 0} → Outlined → (ℕ → R) → (Outline → R) → R
-on_outline (Is o) other k = k o
-on_outline (NoOutline e) other k = other e
+unfoldable pub on_outline : {R : Type 0} → Result Outline ℕ → (ℕ → R) → (Outline → R) → R
+on_outline (Ok o) other k = k o
+on_outline (Err e) other k = other e

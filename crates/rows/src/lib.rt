@@ -2,12 +2,12 @@
 #![tactic(auto)]
 
 ghost use Rattle.std.specs.Prelude.{◌≡◌, cond, ◌<◌};
-ghost use Rattle.cert.specs.declared.Reading.TheVariants.{Accepted, Refused};
 ghost use Rattle.rows.specs.Model.{span_in, slot_in, known_in, certificate_in, outline_of, row_reading};
 
 use cert::Certificate;
 use der::Span;
 use extensions::{Known, Slot};
+use refusal::Refusal;
 
 // What the search uses of a certificate, but for the checks of the certificate itself.
 #[derive(Clone, Copy)]
@@ -21,88 +21,64 @@ pub struct Outline {
     pub constrained: bool,
 }
 
-#[derive(Clone, Copy)]
-pub enum Outlined {
-    Is(Outline),
-    Refused(u16),
-}
-
 fn flag(b: bool) -> usize
     ensures { result ≡ cond b 1 0 }
 {
-    if b {
-        return 1;
-    }
-    0
+    if b { 1 } else { 0 }
 }
 
 // The row of a certificate: 0, and then its places.
 pub fn accepted(c: Certificate) -> [usize; 37]
-    ensures { row_reading result ≡ Accepted c }
+    ensures { row_reading result ≡ Ok c }
 {
-    let signed = c.signed;
-    let algorithm = c.algorithm;
-    let signature = c.signature;
-    let serial = c.serial;
-    let inner = c.inner_algorithm;
-    let issuer = c.issuer;
-    let validity = c.validity;
-    let subject = c.subject;
-    let key = c.key;
     let known = c.known;
-    let usage = known.key_usage;
-    let names = known.alternative_name;
-    let basic = known.basic_constraints;
-    let constraints = known.name_constraints;
-    let points = known.distribution_points;
-    let purposes = known.key_purposes;
     [
         0,
-        signed.start,
-        signed.end,
-        algorithm.start,
-        algorithm.end,
-        signature.start,
-        signature.end,
-        serial.start,
-        serial.end,
-        inner.start,
-        inner.end,
-        issuer.start,
-        issuer.end,
-        validity.start,
-        validity.end,
-        subject.start,
-        subject.end,
-        key.start,
-        key.end,
-        flag(usage.known),
-        usage.start,
-        usage.end,
-        flag(names.known),
-        names.start,
-        names.end,
-        flag(basic.known),
-        basic.start,
-        basic.end,
-        flag(constraints.known),
-        constraints.start,
-        constraints.end,
-        flag(points.known),
-        points.start,
-        points.end,
-        flag(purposes.known),
-        purposes.start,
-        purposes.end,
+        c.signed.start,
+        c.signed.end,
+        c.algorithm.start,
+        c.algorithm.end,
+        c.signature.start,
+        c.signature.end,
+        c.serial.start,
+        c.serial.end,
+        c.inner_algorithm.start,
+        c.inner_algorithm.end,
+        c.issuer.start,
+        c.issuer.end,
+        c.validity.start,
+        c.validity.end,
+        c.subject.start,
+        c.subject.end,
+        c.key.start,
+        c.key.end,
+        flag(known.key_usage.known),
+        known.key_usage.start,
+        known.key_usage.end,
+        flag(known.alternative_name.known),
+        known.alternative_name.start,
+        known.alternative_name.end,
+        flag(known.basic_constraints.known),
+        known.basic_constraints.start,
+        known.basic_constraints.end,
+        flag(known.name_constraints.known),
+        known.name_constraints.start,
+        known.name_constraints.end,
+        flag(known.distribution_points.known),
+        known.distribution_points.start,
+        known.distribution_points.end,
+        flag(known.key_purposes.known),
+        known.key_purposes.start,
+        known.key_purposes.end,
     ]
 }
 
 // The row of a certificate that was refused: why, and one more.
-pub fn refused(e: u16) -> [usize; 37]
-    ensures { row_reading result ≡ Refused e }
+pub fn refused(e: Refusal) -> [usize; 37]
+    ensures { row_reading result ≡ Err e }
 {
     let mut row = [0usize; 37];
-    row[0] = e as usize + 1;
+    row[0] = e.number() as usize + 1;
     row
 }
 
@@ -162,22 +138,14 @@ pub fn certificate_in(row: [usize; 37]) -> Certificate
 pub fn outline_of(c: Certificate) -> Outline
     ensures { result ≡ outline_of c }
 {
-    let signed = c.signed;
-    let algorithm = c.algorithm;
-    let signature = c.signature;
-    let issuer = c.issuer;
-    let subject = c.subject;
-    let key = c.key;
-    let known = c.known;
-    let constraints = known.name_constraints;
     Outline {
-        signed,
-        algorithm,
-        signature,
-        issuer,
-        subject,
-        key,
-        constrained: constraints.known,
+        signed: c.signed,
+        algorithm: c.algorithm,
+        signature: c.signature,
+        issuer: c.issuer,
+        subject: c.subject,
+        key: c.key,
+        constrained: c.known.name_constraints.known,
     }
 }
 
@@ -185,7 +153,6 @@ pub fn outline_of(c: Certificate) -> Outline
 pub fn outline_in(row: [usize; 37]) -> Outline
     ensures { result ≡ outline_of (certificate_in row) }
 {
-    let constraints = slot_at(row, 28);
     Outline {
         signed: span_at(row, 1),
         algorithm: span_at(row, 3),
@@ -193,6 +160,6 @@ pub fn outline_in(row: [usize; 37]) -> Outline
         issuer: span_at(row, 11),
         subject: span_at(row, 15),
         key: span_at(row, 17),
-        constrained: constraints.known,
+        constrained: slot_at(row, 28).known,
     }
 }

@@ -4,11 +4,11 @@ use mathlib.Core.Path.{◌≡◌, sym, ◌∙◌, ap}
 use mathlib.Core.Bool.{Bool, true, false}
 use mathlib.Core.List.{List}
 use borrow.Author.Tests.{eq-eqb, ne_eqb}
-use Rattle.cert.specs.declared.Reading.{Reading}
 use Rattle.machine.specs.declared.State.{State}
 use Rattle.wanted.specs.Model.{name_by}
 use Rattle.steps.specs.declared.Step.{Step}
 use Rattle.steps.specs.Model.{number_of, refusal_of, is_found, step_of, shown_as}
+use Rattle.cert.specs.Model.{Reading}
 
 -- what is said of the name, by what is known of the end entity
 pub named_by : (r g : Reading) (end : List ℕ) (kind : ℕ) (name : List ℕ) (x : ℕ) → r ≡ g → x ≡ name_by r end kind name → x ≡ name_by g end kind name

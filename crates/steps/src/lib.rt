@@ -8,6 +8,7 @@ ghost use Rattle.steps.specs.Model.{phase_of, number_of, refusal_of, is_found, s
 
 use lent::MOST_INTERMEDIATES;
 use machine::{Phase, State};
+use refusal::Refusal;
 
 // What a step is: a question (whether a key signed a certificate), an offer (a path that only the caller can still refuse), or an end.
 // SPENT: a budget was used up, so nothing is said about the paths that were not looked at.
@@ -40,7 +41,7 @@ pub struct Step {
 }
 
 // A search that ended before it began.
-pub fn ended(refusal: u16, signatures: u64, extensions: u64, comparisons: u64) -> Step
+pub fn ended(refusal: Refusal, signatures: u64, extensions: u64, comparisons: u64) -> Step
     ensures { result ≡ ended_step refusal signatures extensions comparisons }
 {
     Step {
@@ -53,93 +54,79 @@ pub fn ended(refusal: u16, signatures: u64, extensions: u64, comparisons: u64) -
         signatures,
         extensions,
         comparisons,
-        best: refusal,
+        best: refusal.number(),
         phase: REFUSED,
-        refusal,
+        refusal: refusal.number(),
     }
 }
 
-fn phase_of(phase: u16, refusal: u16) -> Phase
+#[tactic(auto, unfolding(crate::specs::Model::phase_of))]
+fn phase_of(phase: u16, refusal: Refusal) -> Phase
     ensures { result ≡ phase_of phase refusal }
 {
-    if phase == ASK {
-        return Phase::Ask;
+    match phase {
+        ASK => Phase::Ask,
+        OFFER => Phase::Offer,
+        FOUND => Phase::Found,
+        SPENT => Phase::Spent(refusal),
+        _ => Phase::Refused(refusal),
     }
-    if phase == OFFER {
-        return Phase::Offer;
-    }
-    if phase == FOUND {
-        return Phase::Found;
-    }
-    if phase == SPENT {
-        return Phase::Spent(refusal);
-    }
-    Phase::Refused(refusal)
 }
 
+#[tactic(auto, unfolding(crate::specs::Model::number_of))]
 fn number_of(p: Phase) -> u16
     ensures { result ≡ number_of p }
 {
     match p {
-        Phase::Walk => REFUSED,
         Phase::Ask => ASK,
         Phase::Offer => OFFER,
         Phase::Found => FOUND,
-        Phase::Refused(_) => REFUSED,
+        Phase::Walk | Phase::Refused(_) => REFUSED,
         Phase::Spent(_) => SPENT,
     }
 }
 
+#[tactic(auto, unfolding(crate::specs::Model::refusal_of))]
 fn refusal_of(p: Phase) -> u16
     ensures { result ≡ refusal_of p }
 {
     match p {
-        Phase::Walk => 0,
-        Phase::Ask => 0,
-        Phase::Offer => 0,
-        Phase::Found => 0,
-        Phase::Refused(e) => e,
-        Phase::Spent(e) => e,
+        Phase::Refused(e) | Phase::Spent(e) => e.number(),
+        _ => 0,
     }
 }
 
+#[tactic(auto, unfolding(crate::specs::Model::is_found))]
 fn is_found(p: Phase) -> bool
     ensures { result ≡ is_found p }
 {
-    match p {
-        Phase::Walk => false,
-        Phase::Ask => false,
-        Phase::Offer => false,
-        Phase::Found => true,
-        Phase::Refused(_) => false,
-        Phase::Spent(_) => false,
-    }
+    matches!(p, Phase::Found)
 }
 
 // The state that a step is. One that no search has, with a path that is too long, is an end.
+#[tactic(auto, unfolding(crate::specs::Model::state_of))]
 pub fn state_of(t: Step) -> State
     ensures { result ≡ state_of t }
 {
     let path = t.path;
     let next = t.next;
-    let depth = t.depth;
     let s = State {
         path,
         next,
-        depth,
+        depth: t.depth,
         at: t.at,
         list: t.list,
         anchor: t.anchor,
         signatures: t.signatures,
         extensions: t.extensions,
         comparisons: t.comparisons,
-        best: t.best,
-        phase: phase_of(t.phase, t.refusal),
+        best: Refusal::from(t.best),
+        phase: phase_of(t.phase, Refusal::from(t.refusal)),
     };
-    if MOST_INTERMEDIATES < depth {
+    if MOST_INTERMEDIATES < t.depth {
         return State {
             depth: 0,
-            phase: Phase::Refused(refusal::MAXIMUM_PATH_DEPTH_EXCEEDED),
+            phase: Phase::Refused(Refusal::MAXIMUM_PATH_DEPTH_EXCEEDED),
             ..s
         };
     }
@@ -161,24 +148,23 @@ fn step_of(s: State, phase: u16, refusal: u16) -> Step
         signatures: s.signatures,
         extensions: s.extensions,
         comparisons: s.comparisons,
-        best: s.best,
+        best: s.best.number(),
         phase,
         refusal,
     }
 }
 
 // The step that a state is. A path that is found is one only if the end entity, whose row has the number i, is good for the name.
+#[tactic(auto, unfolding(crate::specs::Model::shown_as))]
 pub fn shown(table: &[[usize; 37]], i: usize, end: &[u8], kind: u8, name: &[u8], s: State) -> Step
     ensures { result ≡ shown_as (name_by (reading_in table.now i end.now) end.now kind name.now) s s.phase }
 {
-    let ph = s.phase;
-    if is_found(ph) {
-        let reading = table::reading(table, i, end);
-        let e = wanted::refusal_for(reading, end, kind, name);
-        if e != 0 {
-            return step_of(s, REFUSED, e);
-        }
-        return step_of(s, FOUND, 0);
+    if !is_found(s.phase) {
+        return step_of(s, number_of(s.phase), refusal_of(s.phase));
     }
-    step_of(s, number_of(ph), refusal_of(ph))
+    let reading = table::reading(table, i, end);
+    match wanted::refusal_for(reading, end, kind, name) {
+        Ok(()) => step_of(s, FOUND, 0),
+        Err(e) => step_of(s, REFUSED, e.number()),
+    }
 }

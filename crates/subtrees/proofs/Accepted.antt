@@ -16,19 +16,16 @@ use Rattle.der.proofs.Laid.{expect_laid}
 use Rattle.der.proofs.Parts.{part_split, part_at}
 use Rattle.der.proofs.Laws.{lt_or_le}
 use Rattle.der.proofs.Invert.{either}
-use Rattle.dns.specs.declared.Answer.{Answer}
-use Rattle.dns.specs.declared.Answer.TheVariants.{Yes, No, Refused}
 use Rattle.names.specs.General.{General, Named, Each}
 use Rattle.names.proofs.Rows.{named_at}
-use Rattle.entries.specs.declared.Base.TheVariants.{Is}
 use Rattle.entries.specs.declared.Seen.{Seen}
-use Rattle.entries.specs.declared.Step.{Step}
-use Rattle.entries.specs.declared.Step.TheVariants.{Next, Stop}
 use Rattle.entries.specs.Tally.{Tally, tally, after}
-use Rattle.entries.specs.Model.{on_base, base_at, compared, settled, judged, unseen, closed, ended, go_on, entries}
-use Rattle.entries.proofs.Laws.{base_inv, base_within, JudgedAs, judged_inv, not_next}
-use Rattle.entries.proofs.Refusals.{Stepped, judged_stepped}
+use Rattle.entries.specs.Model.{on_base, base_at, compared, settled, judged, unseen, closed, ended, go_on, entries, next_is}
+use Rattle.entries.proofs.Laws.{base_inv, base_within, JudgedAs, judged_inv, not_next, same_next}
+use Rattle.entries.proofs.Refusals.{Nonzero, judged_stepped}
 use Rattle.subtrees.specs.Rfc5280Names.{subtrees, Some}
+use Rattle.std.specs.Prelude.{Ok, Err, Result}
+use Rattle.names.specs.Model.{name_is}
 
 -- ---- one check after another
 pub record BothPass (a b : Tally) : Type 0 where
@@ -73,7 +70,7 @@ module _ (s : List ℕ) (bytes : Bytes s) where
     pub inside : end ≤ to
     pub named : Named (record { kind = kind; content = part s start end })
 
-  pub base_here : (at to kind start end : ℕ) → base_at s at to ≡ Is kind start end → BaseHere at to kind start end
+  pub base_here : (at to kind start end : ℕ) → base_at s at to ≡ name_is kind start end → BaseHere at to kind start end
   base_here at to kind start end e =
       let b = base_inv s at to kind start end e in
       let o = expect_laid s bytes at to 48 bad_der b.whole b.outer in
@@ -98,28 +95,28 @@ bases (suc fuel) s at to =
 pub data Gone (excluded : Bool) (kind : ℕ) (p : List ℕ) : Seen → List General → Seen → Type 0 where
   end : {seen : Seen} → Gone excluded kind p seen [] seen
   other : {seen last : Seen} {e : General} {es : List General} → (e.kind ≡ kind → ⊥) → Gone excluded kind p seen es last → Gone excluded kind p seen (e ∷ es) last
-  hit : {seen last : Seen} {e : General} {es : List General} → excluded ≡ false → e.kind ≡ kind → compared false kind p e.content ≡ Yes
+  hit : {seen last : Seen} {e : General} {es : List General} → excluded ≡ false → e.kind ≡ kind → compared false kind p e.content ≡ Ok true
       → Gone excluded kind p (record { hit = true; miss = seen.miss }) es last → Gone excluded kind p seen (e ∷ es) last
-  miss : {seen last : Seen} {e : General} {es : List General} → excluded ≡ false → e.kind ≡ kind → compared false kind p e.content ≡ No
+  miss : {seen last : Seen} {e : General} {es : List General} → excluded ≡ false → e.kind ≡ kind → compared false kind p e.content ≡ Ok false
       → Gone excluded kind p (record { hit = seen.hit; miss = true }) es last → Gone excluded kind p seen (e ∷ es) last
-  out : {seen last : Seen} {e : General} {es : List General} → excluded ≡ true → e.kind ≡ kind → compared true kind p e.content ≡ No
+  out : {seen last : Seen} {e : General} {es : List General} → excluded ≡ true → e.kind ≡ kind → compared true kind p e.content ≡ Ok false
       → Gone excluded kind p seen es last → Gone excluded kind p seen (e ∷ es) last
 
-settled_gone : (excluded : Bool) (kind : ℕ) (p : List ℕ) (seen seen' last : Seen) (at : ℕ) (e : General) (es : List General) → e.kind ≡ kind → (a : Answer) → compared excluded kind p e.content ≡ a
-    → settled excluded seen at a ≡ Next at seen' → Gone excluded kind p seen' es last → Gone excluded kind p seen (e ∷ es) last
+settled_gone : (excluded : Bool) (kind : ℕ) (p : List ℕ) (seen seen' last : Seen) (at : ℕ) (e : General) (es : List General) → e.kind ≡ kind → (a : Result Bool ℕ) → compared excluded kind p e.content ≡ a
+    → settled excluded seen at a ≡ next_is at seen' → Gone excluded kind p seen' es last → Gone excluded kind p seen (e ∷ es) last
 unfolding settled
-settled_gone true kind p seen seen' last at e es k Yes q h g = absurd (not_next _ h)
-settled_gone false kind p seen seen' last at e es k Yes q h g = let z : record { hit = true; miss = seen.miss } ≡ seen' = cc in let f : Gone false kind p (record { hit = true; miss = seen.miss }) es last = rw z g in hit refl k q f
-settled_gone true kind p seen seen' last at e es k No q h g = let z : seen ≡ seen' = cc in let f : Gone true kind p seen es last = rw z g in out refl k q f
-settled_gone false kind p seen seen' last at e es k No q h g = let z : record { hit = seen.hit; miss = true } ≡ seen' = cc in let f : Gone false kind p (record { hit = seen.hit; miss = true }) es last = rw z g in miss refl k q f
-settled_gone excluded kind p seen seen' last at e es k (Refused x) q h g = absurd (not_next _ h)
+settled_gone true kind p seen seen' last at e es k (Ok true) q h g = absurd (not_next _ h)
+settled_gone false kind p seen seen' last at e es k (Ok true) q h g = hit refl k q (rw (same_next h).1 g)
+settled_gone true kind p seen seen' last at e es k (Ok false) q h g = out refl k q (rw (same_next h).1 g)
+settled_gone false kind p seen seen' last at e es k (Ok false) q h g = miss refl k q (rw (same_next h).1 g)
+settled_gone excluded kind p seen seen' last at e es k (Err x) q h g = absurd (not_next _ h)
 
 judged_gone : (s : List ℕ) (to : ℕ) (excluded : Bool) (kind : ℕ) (p : List ℕ) (at : ℕ) (seen : Seen) (at' : ℕ) (seen' last : Seen) (es : List General) (j : JudgedAs s to excluded kind p at seen at' seen')
     → Gone excluded kind p seen' es last → Gone excluded kind p seen (record { kind = j.base; content = part s j.start at' } ∷ es) last
 judged_gone s to excluded kind p at seen at' seen' last es j g =
     ⊎_elim
     (λ h. settled_gone excluded kind p seen seen' last at' _ es (eqb-true _ _ h.0) _ refl h.1 g)
-    (λ h. let z : seen ≡ seen' = cc h.1 in let f : Gone excluded kind p seen es last = rw z g in other (eqb-false _ _ h.0) f)
+    (λ h. other (eqb-false _ _ h.0) (rw (same_next h.1).1 g))
     (either (eqb j.base kind) j.came)
 
 -- a list that refuses nothing
@@ -155,16 +152,16 @@ module _ (s : List ℕ) (bytes : Bytes s) (to : ℕ) (excluded : Bool) (kind : �
         closes = r.closes;
       }
 
-  step_on : (fuel at : ℕ) (seen : Seen) (x : Step) → judged s to excluded kind p at seen ≡ x → to - at ≤ suc fuel → (go_on x (gone_from fuel)).refusal ≡ 0
+  step_on : (fuel at : ℕ) (seen : Seen) (x : Result (ℕ × Seen) ℕ) → judged s to excluded kind p at seen ≡ x → to - at ≤ suc fuel → (go_on x (gone_from fuel)).refusal ≡ 0
       → ((at' : ℕ) (seen' : Seen) → to - at' ≤ fuel → (gone_from fuel at' seen').refusal ≡ 0 → ListPassed s at' to excluded kind p seen' (bases fuel s at' to) (gone_from fuel at' seen').taken)
       → ListPassed s at to excluded kind p seen (on_base (base_at s at to) (λ e. []) (λ k a b. record { kind = k; content = part s a b } ∷ bases fuel s b to)) (go_on x (gone_from fuel)).taken
   unfolding go_on on_base after
-  step_on fuel at seen (Next at' seen') e h y rec =
-      let j = judged_inv s to excluded kind p at seen at' seen' e in
-      let w = base_within s at to j.base j.start at' j.is in
-      rw j.is (one_more at seen at' seen' (bases fuel s at' to) (gone_from fuel at' seen').taken j (rec at' seen' (omega arith) y))
-  step_on fuel at seen (Stop x) e h y rec =
-      let n : Stepped (Stop x) = rw e at (judged_stepped s to excluded kind p at seen) in
+  step_on fuel at seen (Ok v) e h y rec =
+      let j = judged_inv s to excluded kind p at seen v.0 v.1 e in
+      let w = base_within s at to j.base j.start v.0 j.is in
+      rw j.is (one_more at seen v.0 v.1 (bases fuel s v.0 to) (gone_from fuel v.0 v.1).taken j (rec v.0 v.1 (omega arith) y))
+  step_on fuel at seen (Err x) e h y rec =
+      let n : Nonzero {A = ℕ × Seen} (Err x) = rw e at (judged_stepped s to excluded kind p at seen) in
       absurd (n y)
 
   pub list_passed : (fuel at : ℕ) (seen : Seen) → to - at ≤ fuel → (gone_from fuel at seen).refusal ≡ 0 → ListPassed s at to excluded kind p seen (bases fuel s at to) (gone_from fuel at seen).taken
@@ -186,7 +183,7 @@ module _ (s : List ℕ) (bytes : Bytes s) (to : ℕ) (excluded : Bool) (kind : �
 
 -- ---- what going through comes to
 -- an excluded list: no entry of the kind has the name
-pub gone_out : (kind : ℕ) (p : List ℕ) {seen last : Seen} (es : List General) → Gone true kind p seen es last → Each (λ e. e.kind ≡ kind → compared true kind p e.content ≡ No) es
+pub gone_out : (kind : ℕ) (p : List ℕ) {seen last : Seen} (es : List General) → Gone true kind p seen es last → Each (λ e. e.kind ≡ kind → compared true kind p e.content ≡ Ok false) es
 unfolding Each
 gone_out kind p [] g = tt
 gone_out kind p (e ∷ es) (other n g) = (λ k. absurd (n k), gone_out kind p es g)
@@ -196,7 +193,7 @@ gone_out kind p (e ∷ es) (out x k q g) = (λ k'. q, gone_out kind p es g)
 
 -- a permitted list: an entry has the name, or there is none of the kind
 abbrev pub Hits : ℕ → List ℕ → List General → Type 0
-Hits kind p es = Some (λ e. (e.kind ≡ kind) × (compared false kind p e.content ≡ Yes)) es
+Hits kind p es = Some (λ e. (e.kind ≡ kind) × (compared false kind p e.content ≡ Ok true)) es
 
 data Inside (kind : ℕ) (p : List ℕ) (seen : Seen) (es : List General) : Type 0 where
   before : seen.hit ≡ true → Inside kind p seen es

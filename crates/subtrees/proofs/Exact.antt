@@ -9,8 +9,6 @@ use native.Mathlib.Omega.{arith}
 use borrow.Author.Tests.{eqb-true, eqb-false}
 use Rattle.refusal.specs.Refusals.{name_constraint_violation}
 use Rattle.der.specs.Places.{Bytes}
-use Rattle.dns.specs.declared.Answer.{Answer}
-use Rattle.dns.specs.declared.Answer.TheVariants.{Yes, No, Refused}
 use Rattle.dns.specs.Names.{SomeIn}
 use Rattle.dns.specs.Stricter.{Stricter}
 use Rattle.dns.specs.Model.{match_permitted, match_excluded}
@@ -23,6 +21,7 @@ use Rattle.ip.proofs.Masks.{Answered, address_comparable, comparable_address}
 use Rattle.names.specs.General.{dns_name, ip_address, General}
 use Rattle.entries.specs.Model.{compared}
 use Rattle.subtrees.specs.ExactNames.{Comparable, host_names, addresses, Has, has_hosts, has_address, Hits, hits_host, hits_dotted, hits_address}
+use Rattle.std.specs.Prelude.{Ok, Err, Result}
 
 -- no name is of two kinds
 pub different : {A : Type 0} (k : ℕ) → k ≡ dns_name → k ≡ ip_address → A
@@ -32,14 +31,14 @@ different k e f = absurd (let z : ◌≡◌ {A = ℕ} 130 135 = sym e ∙ f in o
 data Kind (kind : ℕ) (excluded : Bool) (p q : List ℕ) : Type 0 where
   dns : kind ≡ dns_name → compared excluded kind p q ≡ cond excluded (match_excluded p q) (match_permitted p q) → Kind kind excluded p q
   ip : kind ≡ ip_address → compared excluded kind p q ≡ match_subnet p q → Kind kind excluded p q
-  shut : (kind ≡ dns_name → ⊥) → (kind ≡ ip_address → ⊥) → compared excluded kind p q ≡ cond excluded Yes No → Kind kind excluded p q
-  unknown : (kind ≡ dns_name → ⊥) → (kind ≡ ip_address → ⊥) → compared excluded kind p q ≡ Refused name_constraint_violation → Kind kind excluded p q
+  shut : (kind ≡ dns_name → ⊥) → (kind ≡ ip_address → ⊥) → compared excluded kind p q ≡ cond excluded (Ok true) (Ok false) → Kind kind excluded p q
+  unknown : (kind ≡ dns_name → ⊥) → (kind ≡ ip_address → ⊥) → compared excluded kind p q ≡ Err name_constraint_violation → Kind kind excluded p q
 
 compared_by : (kind : ℕ) (excluded : Bool) (p q : List ℕ)
     → compared excluded kind p q
     ≡ cond (eqb kind 130)
     (cond excluded (match_excluded p q) (match_permitted p q))
-    (cond (eqb kind 135) (match_subnet p q) (cond (eqb kind 164) (cond excluded Yes No) (cond (eqb kind 134) (cond excluded Yes No) (Refused name_constraint_violation))))
+    (cond (eqb kind 135) (match_subnet p q) (cond (eqb kind 164) (cond excluded (Ok true) (Ok false)) (cond (eqb kind 134) (cond excluded (Ok true) (Ok false)) (Err name_constraint_violation))))
 unfolding compared
 compared_by kind excluded p q = refl
 
@@ -57,7 +56,7 @@ kind_of_lem kind excluded p q = go (eqb kind 130) refl (eqb kind 135) refl (eqb 
 names_formed : (p q : List ℕ) (excluded : Bool) → Answered (cond excluded (match_excluded p q) (match_permitted p q)) → (presented_name p ≡ true) × (entry_name q ≡ true)
 names_formed p q excluded d = go (presented_name p) (entry_name q) refl refl excluded d
   where
-    refused : {y : ℕ} {x : Answer} → x ≡ Refused y → Answered x → ⊥
+    refused : {y : ℕ} {x : Result Bool ℕ} → x ≡ Err y → Answered x → ⊥
     refused r (inl y) = yes_refused (sym y ∙ r)
     refused r (inr y) = no_refused (sym y ∙ r)
 
@@ -69,14 +68,14 @@ names_formed p q excluded d = go (presented_name p) (entry_name q) refl refl exc
     go false t h k false d = absurd (refused (presented_refused p q h).0 d)
 
 module _ (n e : General) (bn : Bytes n.content) (be : Bytes e.content) where
-  abbrev permits : Answer
+  abbrev permits : Result Bool ℕ
   permits = compared false n.kind n.content e.content
 
-  abbrev excludes : Answer
+  abbrev excludes : Result Bool ℕ
   excludes = compared true n.kind n.content e.content
 
   -- PERMITTED: yes just if the two can be compared, and the entry has the name
-  pub yes_has : permits ≡ Yes → Comparable n e × Has n e
+  pub yes_has : permits ≡ Ok true → Comparable n e × Has n e
   yes_has y = go (kind_of_lem n.kind false n.content e.content)
     where
       go : Kind n.kind false n.content e.content → Comparable n e × Has n e
@@ -89,10 +88,10 @@ module _ (n e : General) (bn : Bytes n.content) (be : Bytes e.content) where
       go (shut o i c) = absurd (yes_no (sym y ∙ c))
       go (unknown o i c) = absurd (yes_refused (sym y ∙ c))
 
-  pub has_yes : Comparable n e → Has n e → permits ≡ Yes
+  pub has_yes : Comparable n e → Has n e → permits ≡ Ok true
   has_yes c h = go (kind_of_lem n.kind false n.content e.content) c h
     where
-      go : Kind n.kind false n.content e.content → Comparable n e → Has n e → permits ≡ Yes
+      go : Kind n.kind false n.content e.content → Comparable n e → Has n e → permits ≡ Ok true
       go (dns k c) (host_names l a b) (has_hosts i h) = c ∙ ⊎_elim (λ d. d.0) (λ d. absurd (d.1 h)) (permitted_decides n.content e.content a b)
       go (dns k c) (host_names l a b) (has_address i h) = different n.kind k i
       go (dns k c) (addresses l a b x) h = different n.kind k l
@@ -108,7 +107,7 @@ module _ (n e : General) (bn : Bytes n.content) (be : Bytes e.content) where
   pub comparable_answered : Comparable n e → Answered permits
   comparable_answered c = go (kind_of_lem n.kind false n.content e.content) c
     where
-      on : {x y : Answer} → x ≡ y → Answered y → Answered x
+      on : {x y : Result Bool ℕ} → x ≡ y → Answered y → Answered x
       on e (inl h) = inl (e ∙ h)
       on e (inr h) = inr (e ∙ h)
 
@@ -125,7 +124,7 @@ module _ (n e : General) (bn : Bytes n.content) (be : Bytes e.content) where
   pub answered_comparable : (n.kind ≡ dns_name) ⊎ (n.kind ≡ ip_address) → Answered permits → Comparable n e
   answered_comparable known d = go (kind_of_lem n.kind false n.content e.content) d
     where
-      on : {x y : Answer} → x ≡ y → Answered x → Answered y
+      on : {x y : Result Bool ℕ} → x ≡ y → Answered x → Answered y
       on e (inl h) = inl (sym e ∙ h)
       on e (inr h) = inr (sym e ∙ h)
 
@@ -136,7 +135,7 @@ module _ (n e : General) (bn : Bytes n.content) (be : Bytes e.content) where
       go (unknown o i c) d = absurd (⊎_elim o i known)
 
   -- EXCLUDED: no just if the two can be compared, and the entry has nothing of the name
-  pub no_clear : excludes ≡ No → Comparable n e × (Hits n e → ⊥)
+  pub no_clear : excludes ≡ Ok false → Comparable n e × (Hits n e → ⊥)
   no_clear y = go (kind_of_lem n.kind true n.content e.content)
     where
       go : Kind n.kind true n.content e.content → Comparable n e × (Hits n e → ⊥)
@@ -159,10 +158,10 @@ module _ (n e : General) (bn : Bytes n.content) (be : Bytes e.content) where
       go (shut o i c) = absurd (yes_no (sym c ∙ y))
       go (unknown o i c) = absurd (no_refused (sym y ∙ c))
 
-  pub clear_no : Comparable n e → (Hits n e → ⊥) → excludes ≡ No
+  pub clear_no : Comparable n e → (Hits n e → ⊥) → excludes ≡ Ok false
   clear_no c h = go (kind_of_lem n.kind true n.content e.content) c
     where
-      go : Kind n.kind true n.content e.content → Comparable n e → excludes ≡ No
+      go : Kind n.kind true n.content e.content → Comparable n e → excludes ≡ Ok false
       go (dns k c) (host_names l a b) =
           c ∙ ⊎_elim (λ d. absurd (⊎_elim (λ s. h (hits_host k s)) (λ s. h (hits_dotted k s)) d.1)) (λ d. d.0) (excluded_decides n.content e.content a b)
       go (dns k c) (addresses l a b x) = different n.kind k l

@@ -17,16 +17,12 @@ use Rattle.der.proofs.Laws.{value_expect}
 use Rattle.der.proofs.Laid.{laid_read}
 use Rattle.der.proofs.Parts.{part_front, part_length}
 use Rattle.extensions.proofs.Value.{encoded_length}
-use Rattle.dns.specs.declared.Answer.TheVariants.{Yes, No}
 use Rattle.names.specs.General.{dns_name, ip_address, General, Named, Each}
-use Rattle.names.specs.declared.general.Name.TheVariants.{Found}
-use Rattle.names.specs.Model.{general_name}
+use Rattle.names.specs.Model.{general_name, name_is}
 use Rattle.names.proofs.Rows.{read_name}
-use Rattle.entries.specs.declared.Base.TheVariants.{Is}
 use Rattle.entries.specs.declared.Seen.{Seen}
-use Rattle.entries.specs.declared.Step.TheVariants.{Next}
 use Rattle.entries.specs.Tally.{Tally, tally, after}
-use Rattle.entries.specs.Model.{on_name, base_at, compared, settled, on_base, judged, unseen, closed, ended, go_on, entries}
+use Rattle.entries.specs.Model.{on_name, base_at, compared, settled, on_base, judged, unseen, closed, ended, go_on, entries, next_is}
 use Rattle.subtrees.specs.Rfc5280Names.{subtrees, Some, OfKind}
 use Rattle.subtrees.proofs.Accepted.{Gone, end, other, hit, miss, out, gone_hit, gone_out, both_pass, bases, entries_pass}
 use Rattle.subtrees.specs.ExactNames.{Comparable, host_names, addresses, Has, Hits, Exactly}
@@ -36,6 +32,7 @@ use Rattle.subtrees.proofs.Generals.{some_to, each_to, each_two, each_if, some_t
 use Rattle.subtrees.proofs.Exact.{yes_has, has_yes, comparable_answered, answered_comparable, no_clear, clear_no}
 use Rattle.ip.proofs.Masks.{Answered}
 use Rattle.entries.specs.Kinds.{directory_name}
+use Rattle.std.specs.Prelude.{Ok}
 
 abbrev pub BytesIn : General → Type 0
 BytesIn e = Bytes e.content
@@ -57,7 +54,7 @@ module _ (n : General) (bn : Bytes n.content) (permitted excluded : List General
   pub lists_exact : {last last' : Seen} → Gone false n.kind n.content unseen permitted last → closed last ≡ 0 → Gone true n.kind n.content unseen excluded last' → Exactly permitted excluded n
   lists_exact g z h =
       let yeses : Some (OfKind n) permitted → Some (λ e. OfKind n e × (Comparable n e × Has n e)) permitted = λ s.
-      some_two (λ e. (e.kind ≡ n.kind) × (compared false n.kind n.content e.content ≡ Yes)) BytesIn (λ e. OfKind n e × (Comparable n e × Has n e)) (λ e y be. (y.0, yes_has n e bn be y.1)) permitted (gone_hit n.kind n.content permitted g z s) bp in
+      some_two (λ e. (e.kind ≡ n.kind) × (compared false n.kind n.content e.content ≡ Ok true)) BytesIn (λ e. OfKind n e × (Comparable n e × Has n e)) (λ e y be. (y.0, yes_has n e bn be y.1)) permitted (gone_hit n.kind n.content permitted g z s) bp in
       let kinds : Each (λ e. OfKind n e → (n.kind ≡ dns_name) ⊎ (n.kind ≡ ip_address)) permitted =
       each_if (OfKind n) _ permitted (λ s. some_one (λ e. OfKind n e × (Comparable n e × Has n e)) permitted (yeses s) (λ e y. known y.1.0)) in
       let both : Each (λ e. OfKind n e → Answered (compared false n.kind n.content e.content) × ((n.kind ≡ dns_name) ⊎ (n.kind ≡ ip_address))) permitted =
@@ -105,9 +102,9 @@ module _ (n : General) (bn : Bytes n.content) where
       skip k (has (inr h)) = has h
       skip k (none h f) = none h f.1
 
-      missed : OfKind n e → compared false n.kind n.content e.content ≡ No → Wanted n seen (e ∷ es) → Wanted n (record { hit = seen.hit; miss = true }) es
+      missed : OfKind n e → compared false n.kind n.content e.content ≡ Ok false → Wanted n seen (e ∷ es) → Wanted n (record { hit = seen.hit; miss = true }) es
       missed k y (had h) = had h
-      missed k y (has (inl h)) = absurd (let z : Yes ≡ No = sym (has_yes n e bn b.0 (c.0 k) h.1) ∙ y in let q : ◌≡◌ {A = ℕ} 0 1 = cc in omega arith)
+      missed k y (has (inl h)) = absurd (let z : Ok true ≡ Ok false = sym (has_yes n e bn b.0 (c.0 k) h.1) ∙ y in let q : ◌≡◌ {A = ℕ} 0 1 = cc in omega arith)
       missed k y (has (inr h)) = has h
       missed k y (none h f) = absurd (f.0 k)
 
@@ -143,7 +140,7 @@ module _ (n : General) (bn : Bytes n.content) where
 record BaseRead (s : List ℕ) (at to : ℕ) (e : General) (rest : List ℕ) : Type 0 where
   start : ℕ
   next : ℕ
-  is : base_at s at to ≡ Is e.kind start next
+  is : base_at s at to ≡ name_is e.kind start next
   content : part s start next ≡ e.content
   after_is : part s next to ≡ rest
   later : at < next
@@ -162,7 +159,7 @@ base_read s at to e rest k small a l h =
     let w : next ≤ length s = omega (arith, f.0, l) in
     let m = read_name s r.start next e [] k r.ordered w q in
     let z : m.end ≡ next = all_read m.end next m.inside w m.after in
-    let n : general_name s r.start next ≡ Found e.kind m.start next = m.name ∙ ap (Found e.kind m.start) z in
+    let n : general_name s r.start next ≡ name_is e.kind m.start next = m.name ∙ ap (name_is e.kind m.start) z in
     record {
       start = m.start;
       next = next;
@@ -196,11 +193,11 @@ module _ (s : List ℕ) (to : ℕ) (inside : to ≤ length s) (excluded : Bool) 
   from_at fuel at seen = run to ended (λ a x. go_on (judged s to excluded n.kind n.content a x)) fuel at seen
 
   judged_as : (at : ℕ) (seen : Seen) (e : General) (rest : List ℕ) (r : BaseRead s at to e rest)
-      → judged s to excluded n.kind n.content at seen ≡ cond (eqb e.kind n.kind) (settled excluded seen r.next (compared excluded n.kind n.content e.content)) (Next r.next seen)
+      → judged s to excluded n.kind n.content at seen ≡ cond (eqb e.kind n.kind) (settled excluded seen r.next (compared excluded n.kind n.content e.content)) (next_is r.next seen)
   unfolding judged on_base
   judged_as at seen e rest r = rw (r.is, r.content)
 
-  go_on_lem : (fuel at : ℕ) (seen seen' : Seen) (next : ℕ) → at < to → judged s to excluded n.kind n.content at seen ≡ Next next seen' → (from_at fuel next seen').refusal ≡ 0 → (from_at (suc fuel) at seen).refusal ≡ 0
+  go_on_lem : (fuel at : ℕ) (seen seen' : Seen) (next : ℕ) → at < to → judged s to excluded n.kind n.content at seen ≡ next_is next seen' → (from_at fuel next seen').refusal ≡ 0 → (from_at (suc fuel) at seen).refusal ≡ 0
   unfolding run go_on
   go_on_lem fuel at seen seen' next h j z = rw (lt-ltb at to h, j) (after_passes (tally 1 0) (from_at fuel next seen') refl z)
 

@@ -10,7 +10,6 @@ use native.Mathlib.Omega.{arith}
 use borrow.Author.Tests.{eq-eqb, ne_eqb, le-ltb, le-leb, lt-leb}
 use Rattle.refusal.specs.Refusals.{bad_der}
 use Rattle.der.specs.declared.Span.{Span}
-use Rattle.der.specs.declared.Got.TheVariants.{Content, Refused as NoContent}
 use Rattle.der.specs.Places.{Bytes, part, LIMIT}
 use Rattle.der.specs.X690.{encoding, length_bytes}
 use Rattle.der.specs.Model.{high_tag, expect_at, on_content}
@@ -21,11 +20,11 @@ use Rattle.der.proofs.Invert.{peel, either}
 use Rattle.extensions.proofs.Inversion.{on_content_lem}
 use Rattle.names.specs.General.{General, Named, Each}
 use Rattle.subtrees.specs.declared.Subtrees.{Subtrees}
-use Rattle.subtrees.specs.declared.Lists.TheVariants.{Are, Refused as NoLists}
 use Rattle.subtrees.specs.Rfc5280Names.{subtrees, Field, absent as missing, present as given, NameConstraints}
 use Rattle.subtrees.specs.Model.{list_at, subtrees_at}
 use Rattle.subtrees.proofs.Accepted.{part_empty, bytes_part, bases}
 use Rattle.subtrees.proofs.ExactLists.{BytesIn, ListAt, BothAt}
+use Rattle.std.specs.Prelude.{Ok, Err, Result}
 
 -- ---- bytes in entries
 bytes_left : (xs ys : List ℕ) → Bytes (xs ++ ys) → Bytes xs
@@ -47,8 +46,8 @@ bytes_entries [] b = tt
 bytes_entries (e ∷ es) b = (bytes_content e.kind e.content (bytes_content 48 (encoding e.kind e.content) (bytes_left (encoding 48 (encoding e.kind e.content)) (subtrees es) b)), bytes_entries es (bytes_right (encoding 48 (encoding e.kind e.content)) (subtrees es) b))
 
 -- ---- a list that is read, and one that is there
-no_content : {e : ℕ} {p : Span} → NoContent e ≡ Content p → ⊥
-no_content h = let z : ◌≡◌ {A = ℕ} 0 1 = cc in omega arith
+no_content : {e : ℕ} {p : Span} → Err e ≡ Ok p → ⊥
+no_content h = cc
 
 abbrev bases_at : List ℕ → Span → List General
 bases_at s p = bases (p.end - p.start) s p.start p.end
@@ -61,7 +60,7 @@ no_bases : (s : List ℕ) (a b : ℕ) → b ≤ a → bases (b - a) s a b ≡ []
 unfolding bases
 no_bases s a b h = let e : b - a ≡ 0 = omega arith in rw e
 
-field_read : (s : List ℕ) → Bytes s → (from to tag : ℕ) (p : Span) → list_at s from to tag ≡ Content p → FieldRead s from to tag p
+field_read : (s : List ℕ) → Bytes s → (from to tag : ℕ) (p : Span) → list_at s from to tag ≡ Ok p → FieldRead s from to tag p
 unfolding list_at subtrees
 field_read s b from to tag p e =
     let x = peel (ltb (length s) to) e no_content in
@@ -70,13 +69,13 @@ field_read s b from to tag p e =
     (λ h. ⊎_elim (λ i. there i.1) (λ i. not_there i.1) (either (eqb (get_or s from 0) tag) h.1))
     (either (leb to from) x.1)
   where
-    not_there : Content (record { start = from; end = from }) ≡ Content p → FieldRead s from to tag p
+    not_there : ◌≡◌ {A = Result Span ℕ} (Ok (record { start = from; end = from })) (Ok p) → FieldRead s from to tag p
     not_there q =
         let r : ◌≡◌ {A = Span} (record { start = from; end = from }) p = cc in
         let n = no_bases s from from (omega arith) in
         rw (← r) (record { later = omega arith; field = λ h. (missing n (part_empty s from from (omega arith)), rw n (omega arith)) })
 
-    there : expect_at s from to tag bad_der ≡ Content p → FieldRead s from to tag p
+    there : expect_at s from to tag bad_der ≡ Ok p → FieldRead s from to tag p
     there q =
         let l = expect_laid s b from to tag bad_der p q in
         record {
@@ -93,7 +92,7 @@ data Other (tag : ℕ) (rest : List ℕ) : Type 0 where
 
 record ListFound (s : List ℕ) (from to tag : ℕ) (es : List General) (rest : List ℕ) : Type 0 where
   place : Span
-  is : list_at s from to tag ≡ Content place
+  is : list_at s from to tag ≡ Ok place
   list_is : ListAt s place.start place.end es
   after_is : part s place.end to ≡ rest
   inside : place.end ≤ to
@@ -116,7 +115,7 @@ module _ (s : List ℕ) (bytes : Bytes s) (from to tag : ℕ) (a : from ≤ to) 
         inside = a;
       }
     where
-      by : Other tag rest → cond (leb to from) (Content (record { start = from; end = from })) (cond (eqb (get_or s from 0) tag) (expect_at s from to tag bad_der) (Content (record { start = from; end = from }))) ≡ Content (record { start = from; end = from })
+      by : Other tag rest → cond (leb to from) (Ok (record { start = from; end = from })) (cond (eqb (get_or s from 0) tag) (expect_at s from to tag bad_der) (Ok (record { start = from; end = from }))) ≡ Ok (record { start = from; end = from })
       by (nothing h) = let m : to - from ≡ 0 = sym (part_length s from to l) ∙ ap length (e ∙ h) in rw (le-leb to from (omega arith))
       by (another x t h n) = let b = begins x t (e ∙ h) in rw (lt-leb to from b.0, b.1, ne_eqb x tag n)
 
@@ -150,7 +149,7 @@ module _ (s : List ℕ) (bytes : Bytes s) (from to tag : ℕ) (a : from ≤ to) 
 -- ---- the extension
 pub record SubtreesFound (s : List ℕ) (from to : ℕ) (permitted excluded : List General) : Type 0 where
   pub lists : Subtrees
-  pub is : subtrees_at s from to ≡ Are lists
+  pub is : subtrees_at s from to ≡ Ok lists
   pub both : BothAt s lists permitted excluded
   pub all : lists.excluded.end ≡ to
 
@@ -177,17 +176,17 @@ subtrees_found s bytes from to a l permitted excluded x short =
       all = omega (arith, m, q.inside);
     }
 
-no_lists : {l : Subtrees} (e : ℕ) → NoLists e ≡ Are l → ⊥
-no_lists e h = let z : ◌≡◌ {A = ℕ} 0 1 = cc in omega arith
+no_lists : {l : Subtrees} (e : ℕ) → Err e ≡ Ok l → ⊥
+no_lists e h = cc
 
 pub record SubtreesRead (s : List ℕ) (from to : ℕ) (lists : Subtrees) : Type 0 where
   pub first : FieldRead s from to 160 lists.permitted
   pub second : FieldRead s lists.permitted.end to 161 lists.excluded
 
-pub subtrees_read : (s : List ℕ) → Bytes s → (from to : ℕ) (lists : Subtrees) → subtrees_at s from to ≡ Are lists → SubtreesRead s from to lists
+pub subtrees_read : (s : List ℕ) → Bytes s → (from to : ℕ) (lists : Subtrees) → subtrees_at s from to ≡ Ok lists → SubtreesRead s from to lists
 unfolding subtrees_at
 subtrees_read s b from to lists e =
-    let p = on_content_lem (list_at s from to 160) NoLists _ e no_lists in
-    let q = on_content_lem (list_at s p.0.end to 161) NoLists _ p.2 no_lists in
+    let p = on_content_lem (list_at s from to 160) Err _ e no_lists in
+    let q = on_content_lem (list_at s p.0.end to 161) Err _ p.2 no_lists in
     let z : ◌≡◌ {A = Subtrees} (record { permitted = p.0; excluded = q.0 }) lists = cc q.2 in
     rw (← z) (record { first = field_read s b from to 160 p.0 p.1; second = field_read s b p.0.end to 161 q.0 q.1 })

@@ -1,7 +1,6 @@
 -- A certificate of a path, with what is known of it.
 use Rattle.std.specs.Prelude.{ℕ, List, true}
-use Rattle.cert.specs.declared.Reading.{Reading}
-use Rattle.cert.specs.Model.{read_certificate}
+use Rattle.cert.specs.Model.{read_certificate, Reading}
 
 -- a certificate: its bytes, and what is known of it
 pub record Noted : Type 0 where

@@ -1,7 +1,6 @@
 -- What is known of a certificate by a table of rows.
 use Rattle.std.specs.Prelude.{ℕ, ◌≤◌, ◌<◌, ◌≡◌, List, [], true, cond, length, get_or, leb}
-use Rattle.cert.specs.declared.Reading.{Reading}
-use Rattle.cert.specs.Model.{read_certificate}
+use Rattle.cert.specs.Model.{read_certificate, Reading}
 use Rattle.rows.specs.Model.{row_reading}
 
 -- what is known of the certificate s: by its row, or by reading it where there is none

@@ -8,15 +8,16 @@ ghost use Rattle.rows.specs.Model.{outlined, row_reading};
 ghost use Rattle.table.specs.Model.{reading_in, Held};
 
 use cert::Reading;
-use rows::Outlined;
+use refusal::Refusal;
+use rows::Outline;
 
 // The row of the certificate that is all of s.
 fn row_of(s: &[u8]) -> [usize; 37]
     ensures { row_reading result ≡ read_certificate s.now true }
 {
     match cert::read(s, true) {
-        Reading::Accepted(c) => rows::accepted(c),
-        Reading::Refused(e) => rows::refused(e),
+        Ok(c) => rows::accepted(c),
+        Err(e) => rows::refused(e),
     }
 }
 
@@ -24,15 +25,13 @@ fn row_of(s: &[u8]) -> [usize; 37]
 pub fn fill(table: &mut [[usize; 37]], issuers: &[&[u8]], end: &[u8])
     ensures { Held table.new (map (λ x. x.now) issuers.now) end.now }
 {
-    let mut i: usize = 0;
-    while i < issuers.len() {
+    for (i, s) in issuers.iter().enumerate() {
         if table.len() <= i {
             return;
         }
-        let s = issuers[i];
         table[i] = row_of(s);
-        i += 1;
     }
+    let i = issuers.len();
     if i < table.len() {
         table[i] = row_of(end);
     }
@@ -48,26 +47,24 @@ pub fn reading(table: &[[usize; 37]], i: usize, s: &[u8]) -> Reading
     let row = table[i];
     let mark = row[0];
     if mark == 0 {
-        return Reading::Accepted(rows::certificate_in(row));
+        return Ok(rows::certificate_in(row));
     }
     if 0xffff < mark - 1 {
-        return Reading::Refused(refusal::BAD_DER);
+        return Err(Refusal::BAD_DER);
     }
-    Reading::Refused((mark - 1) as u16)
+    Err(Refusal::from((mark - 1) as u16))
 }
 
 // The outline of what was read of the certificate s.
-fn outline_read(s: &[u8]) -> Outlined
+fn outline_read(s: &[u8]) -> Result<Outline, Refusal>
     ensures { result ≡ outlined (read_certificate s.now true) }
 {
-    match cert::read(s, true) {
-        Reading::Accepted(c) => Outlined::Is(rows::outline_of(c)),
-        Reading::Refused(e) => Outlined::Refused(e),
-    }
+    let certificate = cert::read(s, true)?;
+    Ok(rows::outline_of(certificate))
 }
 
 // The same of the certificate s, whose row has the number i.
-pub fn outline_at(table: &[[usize; 37]], i: usize, s: &[u8]) -> Outlined
+pub fn outline_at(table: &[[usize; 37]], i: usize, s: &[u8]) -> Result<Outline, Refusal>
     ensures { result ≡ outlined (reading_in table.now i s.now) }
 {
     if table.len() <= i {
@@ -76,10 +73,10 @@ pub fn outline_at(table: &[[usize; 37]], i: usize, s: &[u8]) -> Outlined
     let row = table[i];
     let mark = row[0];
     if mark == 0 {
-        return Outlined::Is(rows::outline_in(row));
+        return Ok(rows::outline_in(row));
     }
     if 0xffff < mark - 1 {
-        return Outlined::Refused(refusal::BAD_DER);
+        return Err(Refusal::BAD_DER);
     }
-    Outlined::Refused((mark - 1) as u16)
+    Err(Refusal::from((mark - 1) as u16))
 }

@@ -1,104 +1,75 @@
 // What taking a candidate up does to a state of the walk: an anchor is tried, or the path is extended.
 #![tactic(auto)]
 
-ghost use Rattle.std.specs.Prelude.{◌≡◌, map, ◌<◌};
-ghost use Rattle.lent.specs.Lent.{readings_in};
-ghost use Rattle.path.specs.Model.{check_in};
+ghost use Rattle.std.specs.Prelude.{◌≡◌, ◌<◌};
 ghost use Rattle.machine.specs.declared.Phase.TheVariants.{Walk};
 ghost use Rattle.dialogue.specs.Model.{Path, World};
 ghost use Rattle.machine.specs.Machine.{still, try_tree, extend_tree, extend_still, Heard, Grew};
+ghost use Rattle.machine.specs.World.{checks_by};
 
-use lent::MOST_INTERMEDIATES;
+use lent::{Lent, MOST_INTERMEDIATES, Policy};
 use machine::{Phase, State};
+use refusal::Refusal;
 
 // Anchor i is tried: the first of its signatures is asked for.
 pub fn anchor(s: State, i: usize) -> State
     ensures { s.depth < 7 → (W : World) → Heard W s result (try_tree W s i) (still W s) }
 {
-    let signatures = s.signatures;
-    let depth = s.depth;
-    if signatures == 0 {
+    if s.signatures == 0 {
         return State {
-            phase: Phase::Spent(refusal::MAXIMUM_SIGNATURE_CHECKS_EXCEEDED),
+            phase: Phase::Spent(Refusal::MAXIMUM_SIGNATURE_CHECKS_EXCEEDED),
             ..s
         };
     }
     State {
-        at: depth,
+        at: s.depth,
         list: 0,
         anchor: i,
-        signatures: signatures - 1,
+        signatures: s.signatures - 1,
         phase: Phase::Ask,
         ..s
     }
 }
 
 // The path is extended with candidate i, or there is a reason not to. The extension is paid for first.
-pub fn extend<'a>(
-    table: &[[usize; 37]],
-    issuers: &[&'a [u8]],
-    end: &'a [u8],
-    anchors: usize,
-    distrusted: &[&[u8]],
-    time: u64,
-    wanted: &[u8],
-    demanded: bool,
-    s: State,
-    i: usize,
-) -> State
+pub fn extend(lent: &Lent, policy: &Policy, s: State, i: usize) -> State
     ensures { s.depth < 7
         → s.phase ≡ Walk
         → (W : World)
-        → ((p : Path) → W.check p ≡ check_in (readings_in table.now (map (λ x. x.now) issuers.now) end.now anchors)
-        (map (λ x. x.now) issuers.now) end.now anchors (map (λ x. x.now) distrusted.now) time wanted.now demanded p)
+        → ((p : Path) → W.check p ≡ checks_by lent.now policy.now p)
         → Grew W s result i (extend_tree W s i) (extend_still W s i) }
 {
-    let extensions = s.extensions;
-    let depth = s.depth;
-    let best = s.best;
-    if extensions == 0 {
+    if s.extensions == 0 {
         return State {
-            phase: Phase::Spent(refusal::MAXIMUM_PATH_BUILD_CALLS_EXCEEDED),
+            phase: Phase::Spent(Refusal::MAXIMUM_PATH_BUILD_CALLS_EXCEEDED),
             ..s
         };
     }
-    if MOST_INTERMEDIATES <= depth {
-        let b = refusal::worse(best, refusal::MAXIMUM_PATH_DEPTH_EXCEEDED);
+    let extensions = s.extensions - 1;
+    if MOST_INTERMEDIATES <= s.depth {
         return State {
-            extensions: extensions - 1,
-            best: b,
+            extensions,
+            best: s.best.worse(Refusal::MAXIMUM_PATH_DEPTH_EXCEEDED),
             ..s
         };
     }
-    let mut numbers = s.path;
+    let depth = s.depth + 1;
+    let mut path = s.path;
+    path[depth] = i;
+    if let Err(e) = path::check(lent, policy, path, depth) {
+        return State {
+            extensions,
+            best: s.best.worse(e),
+            ..s
+        };
+    }
     let mut next = s.next;
-    numbers[depth + 1] = i;
-    let e = path::check(
-        table,
-        issuers,
-        end,
-        anchors,
-        distrusted,
-        time,
-        wanted,
-        demanded,
-        numbers,
-        depth + 1,
-    );
-    if e != 0 {
-        let b = refusal::worse(best, e);
-        return State {
-            extensions: extensions - 1,
-            best: b,
-            ..s
-        };
-    }
-    next[depth + 1] = 0;
+    next[depth] = 0;
     State {
-        path: numbers,
+        path,
         next,
-        depth: depth + 1,
-        extensions: extensions - 1,
+        depth,
+        extensions,
         ..s
     }
 }

@@ -8,46 +8,30 @@ ghost use Rattle.texts.specs.Model.{begins, relative_text, from_dot};
 pub fn begins(h: &[u8], b: u8) -> bool
     ensures { result ≡ begins h.now b }
 {
-    if h.len() == 0 {
-        return false;
-    }
-    h[0] == b
+    h.first() == Some(&b)
 }
 
 // A text without its first byte.
 pub fn rest(h: &[u8]) -> &[u8]
     ensures { result.now ≡ drop 1 h.now }
 {
-    if h.len() == 0 {
-        return h;
+    match h {
+        [_, rest @ ..] => rest,
+        [] => h,
     }
-    &h[1..]
 }
 
 // A text without the dot that ends it, if one does.
 pub fn relative(h: &[u8]) -> &[u8]
     ensures { result.now ≡ relative_text h.now }
 {
-    if h.len() == 0 {
-        return h;
-    }
-    let last = h.len() - 1;
-    if h[last] == b'.' {
-        return &h[0..last];
-    }
-    h
+    h.strip_suffix(b".").unwrap_or(h)
 }
 
 // What a text has from its first dot on.
 pub fn from_dot(h: &[u8]) -> &[u8]
     ensures { result.now ≡ from_dot h.now }
 {
-    let mut i: usize = 0;
-    while i < h.len() {
-        if h[i] == b'.' {
-            return &h[i..];
-        }
-        i += 1;
-    }
-    &h[i..]
+    let at = h.iter().position(|b| *b == b'.').unwrap_or(h.len());
+    &h[at..]
 }

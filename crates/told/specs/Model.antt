@@ -1,13 +1,11 @@
 -- What a caller is told of a question and of an anchor.
-use Rattle.std.specs.Prelude.{ℕ, cond}
+use Rattle.std.specs.Prelude.{ℕ, cond, Err, Ok, Result}
 use Rattle.der.specs.declared.Span.{Span}
-use Rattle.cert.specs.declared.Anchored.{Anchored}
-use Rattle.cert.specs.declared.Anchored.TheVariants.{Anchor, Refused as NoAnchor}
-use Rattle.cert.specs.declared.key.Key.TheVariants.{Parts, Refused as NoKey}
-use Rattle.asked.specs.declared.Question.{Question}
-use Rattle.asked.specs.declared.Question.TheVariants.{Of, Refused as NoQuestion}
 use Rattle.told.specs.declared.Asked.{Asked}
 use Rattle.told.specs.declared.Trusted.{Trusted}
+use Rattle.cert.specs.declared.TrustAnchor.{TrustAnchor}
+use Rattle.cert.specs.declared.key.Key.{Key}
+use Rattle.asked.specs.declared.Question.{Question}
 
 abbrev pub nowhere : Span
 nowhere = record { start = 0; end = 0 }
@@ -31,23 +29,27 @@ filled_of key what signed algorithm signature own bits e f =
       key_refusal = f;
     }
 
-unfoldable pub asked_of : ℕ → ℕ → Question → Asked
-asked_of key what (Of signed algorithm signature (Parts own bits)) = filled_of key what signed algorithm signature own bits 0 0
-asked_of key what (Of signed algorithm signature (NoKey e)) = filled_of key what signed algorithm signature nowhere nowhere 0 e
-asked_of key what (NoQuestion e) = filled_of key what nowhere nowhere nowhere nowhere nowhere e 0
+-- a question, by what is known of its key
+unfoldable pub keyed_of : ℕ → ℕ → Question → Result Key ℕ → Asked
+keyed_of key what q (Ok v) = filled_of key what q.signed q.algorithm q.signature v.algorithm v.bits 0 0
+keyed_of key what q (Err e) = filled_of key what q.signed q.algorithm q.signature nowhere nowhere 0 e
 
-unfoldable pub trusted_of : Anchored → Trusted
-trusted_of (Anchor subject key constraints) = record {
-  subject_start = subject.start;
-  subject_end = subject.end;
-  key_start = key.start;
-  key_end = key.end;
-  constraints_start = constraints.start;
-  constraints_end = constraints.end;
+unfoldable pub asked_of : ℕ → ℕ → Result Question ℕ → Asked
+asked_of key what (Ok q) = keyed_of key what q q.key
+asked_of key what (Err e) = filled_of key what nowhere nowhere nowhere nowhere nowhere e 0
+
+unfoldable pub trusted_of : Result TrustAnchor ℕ → Trusted
+trusted_of (Ok v) = record {
+  subject_start = v.subject.start;
+  subject_end = v.subject.end;
+  key_start = v.key.start;
+  key_end = v.key.end;
+  constraints_start = v.constraints.start;
+  constraints_end = v.constraints.end;
   refusal = 0;
-  bound = cond constraints.known 1 0;
+  bound = cond v.constraints.known 1 0;
 }
-trusted_of (NoAnchor e) = record {
+trusted_of (Err e) = record {
   subject_start = 0;
   subject_end = 0;
   key_start = 0;

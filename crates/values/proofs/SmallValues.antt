@@ -11,18 +11,15 @@ use native.Mathlib.Nat.{pow-suc, pow-le-pow_right, mul-le-mul_right}
 use borrow.Author.Tests.{ltb-true, ltb-false, leb-true, leb-false, eqb-true, eqb-false, le-ltb}
 use Rattle.refusal.specs.Refusals.{bad_der, trailing_bool}
 use Rattle.der.specs.declared.Span.{Span}
-use Rattle.der.specs.declared.Got.{Got}
-use Rattle.der.specs.declared.Got.TheVariants.{Content, Refused as NoContent}
-use Rattle.values.specs.declared.Truth.TheVariants.{Is as Said, Refused as NoTruth}
-use Rattle.values.specs.declared.Small.TheVariants.{Number, Refused as NoNumber}
 use Rattle.der.specs.Places.{Bytes, part, LIMIT}
 use Rattle.der.specs.X690.{encoding, truth, value_of, Natural}
 use Rattle.der.specs.Model.{high_tag, expect_at, on_content}
-use Rattle.values.specs.Model.{only_byte, truth_in, read_bool, positive_in, nonnegative, small_in, read_small}
+use Rattle.values.specs.Model.{only_byte, truth_in, read_bool, positive_in, nonnegative, small_in, read_small, truth_is, number_is}
 use Rattle.der.proofs.Laws.{tests, value_expect, lt_or_le}
-use Rattle.der.proofs.Invert.{peel, either}
+use Rattle.der.proofs.Invert.{peel, either, ok_pair_parts}
 use Rattle.der.proofs.Parts.{part_length, part_at, part_cons, part_none, part_tail}
 use Rattle.der.proofs.Laid.{expect_laid, laid_read}
+use Rattle.std.specs.Prelude.{Ok, Err, Result}
 
 -- the octets stand at `from` and end at `next`, before `to`
 pub record There (s : List ℕ) (from to next : ℕ) (octets : List ℕ) : Type 0 where
@@ -31,11 +28,11 @@ pub record There (s : List ℕ) (from to next : ℕ) (octets : List ℕ) : Type 
   pub bytes : part s from next ≡ octets
 
 -- a content that was found, or a refusal handed on
-pub content_inv : {R : Type 0} (g : Got) (other : ℕ → R) (k : ℕ → ℕ → R) {r : R} → on_content g other k ≡ r
-    → ((p : Span) × (g ≡ Content p) × (k p.start p.end ≡ r)) ⊎ ((e : ℕ) × (g ≡ NoContent e) × (other e ≡ r))
+pub content_inv : {R : Type 0} (g : Result Span ℕ) (other : ℕ → R) (k : ℕ → ℕ → R) {r : R} → on_content g other k ≡ r
+    → ((p : Span) × (g ≡ Ok p) × (k p.start p.end ≡ r)) ⊎ ((e : ℕ) × (g ≡ Err e) × (other e ≡ r))
 unfolding on_content
-content_inv (Content p) other k e = inl (p, refl, e)
-content_inv (NoContent n) other k e = inr (n, refl, e)
+content_inv (Ok p) other k e = inl (p, refl, e)
+content_inv (Err n) other k e = inr (n, refl, e)
 
 one_byte : (s : List ℕ) (a b : ℕ) → b ≤ length s → b - a ≡ 1 → part s a b ≡ get_or s a 0 ∷ []
 one_byte s a b h e =
@@ -43,18 +40,18 @@ one_byte s a b h e =
     rw f (part_cons s a (a + 1) (omega arith) (omega arith) ∙ ap (λ (l : List ℕ). get_or s a 0 ∷ l) (part_none s (a + 1)))
 
 -- ---- BOOLEAN
-no_said : {e n : ℕ} {v : Bool} → NoTruth e ≡ Said v n → ⊥
+no_said : {e n : ℕ} {v : Bool} → Err e ≡ truth_is v n → ⊥
 no_said h = let z : ◌≡◌ {A = ℕ} 0 1 = cc in omega arith
 
-only_inv : (from to n : ℕ) (w v : Bool) → only_byte from to w ≡ Said v n → (to - from ≡ 1) × (w ≡ v) × (to ≡ n)
+only_inv : (from to n : ℕ) (w v : Bool) → only_byte from to w ≡ truth_is v n → (to - from ≡ 1) × (w ≡ v) × (to ≡ n)
 unfolding only_byte
 only_inv from to n w v e =
     ⊎_elim
-    (λ p. (eqb-true _ _ p.0, cc p.1, cc p.1))
+    (λ p. let t = ok_pair_parts p.1 in (eqb-true _ _ p.0, t.0, t.1))
     (λ p. absurd (no_said p.1))
     (either (eqb (to - from) 1) e)
 
-truth_inv : (s : List ℕ) (from to n : ℕ) (v : Bool) → truth_in s from to ≡ Said v n → (to ≡ n) × (part s from to ≡ truth v)
+truth_inv : (s : List ℕ) (from to n : ℕ) (v : Bool) → truth_in s from to ≡ truth_is v n → (to ≡ n) × (part s from to ≡ truth v)
 unfolding truth_in
 truth_inv s from to n v e =
     let p = peel (ltb (length s) to) e no_said in
@@ -71,7 +68,7 @@ truth_inv s from to n v e =
     (either (eqb (get_or s from 0) 0) r.1))
     (either (eqb (get_or s from 0) 255) q.1)
 
-is_truth : (s : List ℕ) (from to : ℕ) (v : Bool) → to ≤ length s → to - from ≡ 1 → part s from to ≡ truth v → truth_in s from to ≡ Said v to
+is_truth : (s : List ℕ) (from to : ℕ) (v : Bool) → to ≤ length s → to - from ≡ 1 → part s from to ≡ truth v → truth_in s from to ≡ truth_is v to
 unfolding truth_in only_byte
 is_truth s from to true h k e =
     let b : get_or s from 0 ≡ 255 = (part_tail s from to 255 [] (omega arith) h e).0 in
@@ -86,14 +83,14 @@ is_truth s from to false h k e =
 abbrev pub NoBoolean : List ℕ → ℕ → ℕ → Type 0
 NoBoolean s from to = (to ≤ from) ⊎ (get_or s from 0 ≡ 1 → ⊥)
 
-bool_inv : (s : List ℕ) → Bytes s → (from to next : ℕ) (v : Bool) → read_bool s from to ≡ Said v next
+bool_inv : (s : List ℕ) → Bytes s → (from to next : ℕ) (v : Bool) → read_bool s from to ≡ truth_is v next
     → ((v ≡ false) × (next ≡ from) × (to ≤ length s) × NoBoolean s from to) ⊎ There s from to next (encoding 1 (truth v))
 unfolding read_bool
 bool_inv s b from to next v e =
     let p = peel (ltb (length s) to) e no_said in
     let h : to ≤ length s = ltb-false _ _ p.0 in
     ⊎_elim
-    (λ q. inl (cc q.1, cc q.1, h, inl (leb-true _ _ q.0)))
+    (λ q. let t = ok_pair_parts q.1 in inl (sym t.0, sym t.1, h, inl (leb-true _ _ q.0)))
     (λ q.
     ⊎_elim
     (λ r.
@@ -109,13 +106,13 @@ bool_inv s b from to next v e =
       bytes = rw (← n) (l.bytes ∙ ap (encoding 1) t.1);
     }))
     (λ g. absurd (no_said g.2))
-    (content_inv (expect_at s from to 1 trailing_bool) NoTruth (truth_in s) r.1))
-    (λ r. inl (cc r.1, cc r.1, h, inr (eqb-false _ _ r.0)))
+    (content_inv (expect_at s from to 1 trailing_bool) Err (truth_in s) r.1))
+    (λ r. let t = ok_pair_parts r.1 in inl (sym t.0, sym t.1, h, inr (eqb-false _ _ r.0)))
     (either (eqb (get_or s from 0) 1) q.1))
     (either (leb to from) p.1)
 
 -- a true is accepted in one encoding
-pub true_is : (s : List ℕ) → Bytes s → (from to next : ℕ) → read_bool s from to ≡ Said true next → There s from to next (encoding 1 (truth true))
+pub true_is : (s : List ℕ) → Bytes s → (from to next : ℕ) → read_bool s from to ≡ truth_is true next → There s from to next (encoding 1 (truth true))
 true_is s b from to next e =
     ⊎_elim
     (λ h. absurd (let z : true ≡ false = h.0 in let y : ◌≡◌ {A = ℕ} 0 1 = cc in omega arith))
@@ -123,7 +120,7 @@ true_is s b from to next e =
     (bool_inv s b from to next true e)
 
 -- a false in two: absent, or written
-pub false_is : (s : List ℕ) → Bytes s → (from to next : ℕ) → read_bool s from to ≡ Said false next
+pub false_is : (s : List ℕ) → Bytes s → (from to next : ℕ) → read_bool s from to ≡ truth_is false next
     → ((next ≡ from) × (to ≤ length s) × NoBoolean s from to) ⊎ There s from to next (encoding 1 (truth false))
 false_is s b from to next e = ⊎_elim (λ h. inl (h.1, h.2, h.3)) (λ h. inr h) (bool_inv s b from to next false e)
 
@@ -131,7 +128,7 @@ truth_length : (v : Bool) → length (truth v) ≡ 1
 truth_length true = refl
 truth_length false = refl
 
-pub is_bool : (s : List ℕ) (from to next : ℕ) (v : Bool) → There s from to next (encoding 1 (truth v)) → read_bool s from to ≡ Said v next
+pub is_bool : (s : List ℕ) (from to next : ℕ) (v : Bool) → There s from to next (encoding 1 (truth v)) → read_bool s from to ≡ truth_is v next
 unfolding read_bool on_content encoding high_tag
 is_bool s from to next v t =
     let n = truth_length v in
@@ -144,7 +141,7 @@ is_bool s from to next v t =
     let w : to ≤ length s = t.within in
     search (tests, h, g, k)
 
-pub absent_bool : (s : List ℕ) (from to : ℕ) → to ≤ length s → NoBoolean s from to → read_bool s from to ≡ Said false from
+pub absent_bool : (s : List ℕ) (from to : ℕ) → to ≤ length s → NoBoolean s from to → read_bool s from to ≡ truth_is false from
 unfolding read_bool
 absent_bool s from to h a =
     ⊎_elim
@@ -152,12 +149,12 @@ absent_bool s from to h a =
     (λ (n : get_or s from 0 ≡ 1 → ⊥). simp (le-ltb (length s) to h) (go (leb to from) n))
     a
   where
-    go : (b : Bool) → (get_or s from 0 ≡ 1 → ⊥) → cond b (Said false from) (cond (eqb (get_or s from 0) 1) (on_content (expect_at s from to 1 trailing_bool) NoTruth (truth_in s)) (Said false from)) ≡ Said false from
+    go : (b : Bool) → (get_or s from 0 ≡ 1 → ⊥) → cond b (truth_is false from) (cond (eqb (get_or s from 0) 1) (on_content (expect_at s from to 1 trailing_bool) Err (truth_in s)) (truth_is false from)) ≡ truth_is false from
     go true n = refl
     go false n = search tests
 
 -- ---- INTEGER
-no_got : {e : ℕ} {p : Span} → NoContent e ≡ Content p → ⊥
+no_got : {e : ℕ} {p : Span} → Err e ≡ Ok p → ⊥
 no_got h = let z : ◌≡◌ {A = ℕ} 0 1 = cc in omega arith
 
 -- the digits of a number: where they end, what they make, and no zero before them
@@ -172,7 +169,7 @@ value_skip : (xs : List ℕ) → value_of (0 ∷ xs) ≡ value_of xs
 unfolding value_of
 value_skip xs = omega arith
 
-positive_inv : (s : List ℕ) (from to : ℕ) (p : Span) → positive_in s from to ≡ Content p
+positive_inv : (s : List ℕ) (from to : ℕ) (p : Span) → positive_in s from to ≡ Ok p
     → (n : ℕ) × Natural n (part s from to) × Digits s p n to
 unfolding positive_in
 positive_inv s from to p e =
@@ -232,7 +229,7 @@ positive_inv s from to p e =
     (either (eqb (to - from) 1) d.1))
     (either (ltb 0 (get_or s from 0)) c.1)
 
-is_positive : (s : List ℕ) (from to n : ℕ) → to ≤ length s → Natural n (part s from to) → (p : Span) × (positive_in s from to ≡ Content p) × Digits s p n to
+is_positive : (s : List ℕ) (from to n : ℕ) → to ≤ length s → Natural n (part s from to) → (p : Span) × (positive_in s from to ≡ Ok p) × Digits s p n to
 unfolding positive_in
 is_positive s from to n within m =
     let long : length (part s from to) ≡ to - from = part_length s from to within in
@@ -269,7 +266,7 @@ is_positive s from to n within m =
     (lt_or_le (get_or s from 0) 1)
 
 -- an INTEGER that is accepted as not negative: its one encoding stands there, and the place is that of its digits
-pub nonnegative_is : (s : List ℕ) → Bytes s → (from to : ℕ) (p : Span) → nonnegative s from to ≡ Content p
+pub nonnegative_is : (s : List ℕ) → Bytes s → (from to : ℕ) (p : Span) → nonnegative s from to ≡ Ok p
     → (n : ℕ) × (content : List ℕ) × Natural n content × There s from to p.end (encoding 2 content) × Digits s p n p.end
 unfolding nonnegative
 nonnegative_is s b from to p e =
@@ -287,10 +284,10 @@ nonnegative_is s b from to p e =
       record { ends = refl; ordered = d.ordered; inside = d.inside; value = d.value; first = d.first },
     ))
     (λ g. absurd (no_got g.2))
-    (content_inv (expect_at s from to 2 bad_der) NoContent (positive_in s) e)
+    (content_inv (expect_at s from to 2 bad_der) Err (positive_in s) e)
 
 pub is_nonnegative : (s : List ℕ) (from to next n : ℕ) (content : List ℕ) → There s from to next (encoding 2 content) → Natural n content → length content < LIMIT
-    → (p : Span) × (nonnegative s from to ≡ Content p) × Digits s p n next
+    → (p : Span) × (nonnegative s from to ≡ Ok p) × Digits s p n next
 unfolding nonnegative on_content high_tag
 is_nonnegative s from to next n content t m small =
     let f = laid_read s from to 2 content next refl small t.within t.inside t.bytes in
@@ -332,28 +329,28 @@ natural_one v c d h m n =
     (λ a. ⊎_elim (λ b. absurd (omega arith)) (λ b. cc (a.0, b.0)) (natural_small v d h n))
     (natural_small v c h m)
 
-no_number : {e v n : ℕ} → NoNumber e ≡ Number v n → ⊥
+no_number : {e v n : ℕ} → Err e ≡ number_is v n → ⊥
 no_number h = let z : ◌≡◌ {A = ℕ} 0 1 = cc in omega arith
 
 value_one : (x : ℕ) → value_of (x ∷ []) ≡ x
 unfolding value_of
 value_one x = omega arith
 
-small_inv : (s : List ℕ) (from to v n : ℕ) → small_in s from to ≡ Number v n → (value_of (part s from to) ≡ v) × (to ≡ n) × (get_or s from 0 ≡ v)
+small_inv : (s : List ℕ) (from to v n : ℕ) → small_in s from to ≡ number_is v n → (value_of (part s from to) ≡ v) × (to ≡ n) × (get_or s from 0 ≡ v)
 unfolding small_in
 small_inv s from to v n e =
     let a = peel (ltb (length s) to) e no_number in
     let b = peel (leb to from) a.1 no_number in
     go (either (eqb (to - from) 1) b.1) (ltb-false _ _ a.0)
   where
-    go : ((eqb (to - from) 1 ≡ true) × (Number (get_or s from 0) to ≡ Number v n)) ⊎ ((eqb (to - from) 1 ≡ false) × (NoNumber bad_der ≡ Number v n)) → to ≤ length s
+    go : ((eqb (to - from) 1 ≡ true) × (number_is (get_or s from 0) to ≡ number_is v n)) ⊎ ((eqb (to - from) 1 ≡ false) × (Err bad_der ≡ number_is v n)) → to ≤ length s
         → (value_of (part s from to) ≡ v) × (to ≡ n) × (get_or s from 0 ≡ v)
     go (inl c) h =
-        let x : get_or s from 0 ≡ v = cc c.1 in
-        (rw (one_byte s from to h (eqb-true (to - from) 1 c.0), x) (value_one v), cc c.1, x)
+        let x = ok_pair_parts c.1 in
+        (rw (one_byte s from to h (eqb-true (to - from) 1 c.0), x.0) (value_one v), x.1, x.0)
     go (inr c) h = absurd (no_number c.1)
 
-pub small_is : (s : List ℕ) → Bytes s → (from to v next : ℕ) → read_small s from to ≡ Number v next
+pub small_is : (s : List ℕ) → Bytes s → (from to v next : ℕ) → read_small s from to ≡ number_is v next
     → (v < 256) × ((content : List ℕ) × Natural v content × There s from to next (encoding 2 content))
 unfolding read_small
 small_is s b from to v next e =
@@ -365,7 +362,7 @@ small_is s b from to v next e =
     let n : q.0 ≡ v = sym q.4.value ∙ r.0 in
     (omega (arith, b p.start, r.2), (q.1, rw (← n) q.2, rw (← r.1) q.3)))
     (λ g. absurd (no_number g.2))
-    (content_inv (nonnegative s from to) NoNumber (small_in s) e)
+    (content_inv (nonnegative s from to) Err (small_in s) e)
 
 value_head : (x : ℕ) (xs : List ℕ) → 1 ≤ x → 256 ^ length xs ≤ value_of (x ∷ xs)
 unfolding value_of
@@ -391,17 +388,17 @@ digit s p v next h b d =
         let big : 256 ^ 1 ≤ 256 ^ k = pow-le-pow_right {n = 256} (lit< tt) {i = 1} {j = k} (omega arith) in
         omega (arith, value_head (get_or s p.start 0) (part s (p.start + 1) p.end) nonzero, d.value, ap value_of split)
 
-is_small_in : (s : List ℕ) (p : Span) (v next : ℕ) → v < 256 → Bytes s → Digits s p v next → small_in s p.start p.end ≡ Number v next
+is_small_in : (s : List ℕ) (p : Span) (v next : ℕ) → v < 256 → Bytes s → Digits s p v next → small_in s p.start p.end ≡ number_is v next
 unfolding small_in
 is_small_in s p v next h b d =
     let q = digit s p v next h b d in
     let i : p.end ≤ length s = d.inside in
     let o : p.start < p.end = d.ordered in
-    let r : small_in s p.start p.end ≡ Number (get_or s p.start 0) p.end = search (tests, q.0) in
+    let r : small_in s p.start p.end ≡ number_is (get_or s p.start 0) p.end = search (tests, q.0) in
     rw (r, q.1, d.ends)
 
 pub is_small : (s : List ℕ) → Bytes s → (from to v next : ℕ) (content : List ℕ) → v < 256 → Natural v content → There s from to next (encoding 2 content)
-    → read_small s from to ≡ Number v next
+    → read_small s from to ≡ number_is v next
 unfolding read_small on_content
 is_small s b from to v next content h m t =
     let few : length content < LIMIT = ⊎_elim (λ a. rw a.0 (omega arith)) (λ a. rw a.0 (omega arith)) (natural_small v content h m) in

@@ -1,8 +1,8 @@
 -- What is said of the wanted name.
 use Rattle.std.specs.Prelude.{ℕ, List}
-use Rattle.cert.specs.declared.Reading.{Reading}
 use Rattle.path.specs.Model.{on_reading}
 use Rattle.conditions.specs.Model.{name_in}
+use Rattle.cert.specs.Model.{Reading}
 
 -- the refusal of the name, or none, by what is known of the end entity
 unfoldable pub name_by : Reading → List ℕ → ℕ → List ℕ → ℕ

@@ -1,17 +1,13 @@
-use Rattle.asked.specs.Model.{question_in}
+use mathlib.Core.Path.{◌∙◌}
+use Rattle.der.proofs.Laws.{handed_on}
 use Rattle.rows.specs.Model.{on_outline}
+use Rattle.asked.specs.Model.{question_in}
 use Rattle.asked.proofs.question_of.Goals as goal
 
-pub outline-requires : goal.outline-requires
-outline-requires c = tt
-
-pub key_of-parts-requires : goal.key_of-parts-requires
-key_of-parts-requires c = tt
-
-pub returns-in-Is : goal.returns-in-Is
+pub returns-in_err-outline : goal.returns-in_err-outline
 unfolding question_in on_outline
-returns-in-Is c = rw (← c.outline.ensures, c.in-Is.is, ← c.key_of-parts.ensures)
+returns-in_err-outline c = handed_on _ c.from_residual.ensures ∙ rw (← c.in_err-outline.ensures)
 
-pub returns-in-Refused : goal.returns-in-Refused
+pub returns : goal.returns
 unfolding question_in on_outline
-returns-in-Refused c = rw (← c.outline.ensures, c.in-Refused.is)
+returns c = rw (← c.in_ok-outline.ensures, ← c.key_of.ensures)

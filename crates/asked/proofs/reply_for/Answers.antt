@@ -1,18 +1,14 @@
 use Rattle.asked.specs.Model.{reply_in, reply_for}
-use Rattle.der.proofs.Laws.{tests}
 use Rattle.asked.proofs.reply_for.Goals as goal
 
-pub returns-then-answer-eq-UNSUPPORTED_SIGNATURE_ALGORITHM : goal.returns-then-answer-eq-UNSUPPORTED_SIGNATURE_ALGORITHM
+pub returns-then-eq : goal.returns-then-eq
 unfolding reply_in
-returns-then-answer-eq-UNSUPPORTED_SIGNATURE_ALGORITHM c = search tests
+returns-then-eq c = rw (← c.if-eq.ensures)
 
-pub key_of-requires : goal.key_of-requires
-key_of-requires c = tt
-
-pub returns-in-Refused : goal.returns-in-Refused
+pub returns-in-Err : goal.returns-in-Err
 unfolding reply_in reply_for
-returns-in-Refused c = search (tests, ← c.key_of.ensures, c.in-Refused.is)
+returns-in-Err c = rw (← c.if-eq.ensures, ← c.in-Err.ensures)
 
-pub returns-in-Parts : goal.returns-in-Parts
+pub returns-in-Ok : goal.returns-in-Ok
 unfolding reply_in reply_for
-returns-in-Parts c = search (tests, ← c.key_of.ensures, c.in-Parts.is)
+returns-in-Ok c = rw (← c.if-eq.ensures, ← c.in-Ok.ensures)

@@ -1,18 +1,14 @@
+use mathlib.Core.Path.{◌∙◌}
+use Rattle.der.proofs.Laws.{handed_on}
 use Rattle.der.specs.Model.{on_content}
 use Rattle.bits.specs.Model.{bits_at}
 use Rattle.bits.proofs.bits_at.Goals as goal
 
-pub expect-requires : goal.expect-requires
-expect-requires c = tt
-
-pub whole_octets-requires : goal.whole_octets-requires
-whole_octets-requires c = tt
-
-pub returns-in-Content : goal.returns-in-Content
+pub returns-in_err-content : goal.returns-in_err-content
 unfolding bits_at on_content
-returns-in-Content c =
-    search (← c.expect.ensures, c.in-Content.is, c.whole_octets.ensures)
+returns-in_err-content c =
+    handed_on _ c.from_residual.ensures ∙ search (← c.expect.ensures, c.in_err-content.was)
 
-pub returns-in-Refused : goal.returns-in-Refused
+pub returns : goal.returns
 unfolding bits_at on_content
-returns-in-Refused c = search (← c.expect.ensures, c.in-Refused.is)
+returns c = search (← c.expect.ensures, c.in_ok-content.was, c.whole_octets.ensures)

@@ -1,24 +1,20 @@
 use mathlib.Core.Path.{sym, ◌∙◌}
-use Rattle.candidate.proofs.Laws.{anchor_lent, anchor_lacking, anchor_keyless}
 use native.Mathlib.Omega.{arith}
+use Rattle.candidate.proofs.Laws.{anchor_lent, anchor_lacking, anchor_keyless}
 use Rattle.candidate.proofs.anchor_at.Goals as goal
-
-pub is_whole-requires : goal.is_whole-requires
-is_whole-requires c = tt
-
-pub anchor_verdict-requires : goal.anchor_verdict-requires
-anchor_verdict-requires c = tt
+use Rattle.candidate.proofs.anchor_at.Goals.{else-i-anchors-via-then-i-anchors+else-is_whole, else-i-anchors-via-else-i-anchors}
 
 pub returns-then-is_whole : goal.returns-then-is_whole
 returns-then-is_whole c =
-    let a = c.args in
+    let l = c.args.anchors.now in
     let whole = sym c.is_whole.ensures ∙ c.if-is_whole.true in
-    c.anchor_verdict.ensures ∙ sym (anchor_lent a.subjects.now a.keys.now _ _ _ _ _ _ _ _ (omega arith) (omega arith) whole)
-
-pub returns-then-i-keys : goal.returns-then-i-keys
-returns-then-i-keys c =
-    let a = c.args in
-    sym (anchor_lacking a.subjects.now a.keys.now _ _ _ _ _ a.i (omega arith) (sym c.is_whole.ensures ∙ c.if-is_whole.false))
+    c.anchor_verdict.ensures ∙ sym (anchor_lent l.subjects.now l.keys.now _ _ _ _ _ _ _ _ (omega arith) (omega arith) whole)
 
 pub returns : goal.returns
-returns c = let a = c.args in sym (anchor_keyless a.subjects.now a.keys.now _ _ _ _ _ a.i (omega arith))
+returns c =
+    let a = c.args in
+    let l = a.anchors.now in
+    elim c.else-i-anchors.branch [
+      | else-i-anchors-via-then-i-anchors+else-is_whole w ↦ sym (anchor_lacking l.subjects.now l.keys.now _ _ _ _ _ a.i (omega arith) (sym w.is_whole.ensures ∙ w.if-is_whole.false))
+      | else-i-anchors-via-else-i-anchors w ↦ sym (anchor_keyless l.subjects.now l.keys.now _ _ _ _ _ a.i (omega arith))
+    ]

@@ -2,10 +2,10 @@ use lib.ListN.{length-map}
 use Rattle.candidate.specs.Model.{is_whole}
 use Rattle.candidate.proofs.is_whole.Goals as goal
 
-pub returns-then-is_flagged : goal.returns-then-is_flagged
+pub returns-then-not-is_flagged : goal.returns-then-not-is_flagged
 unfolding is_whole
-returns-then-is_flagged c = rw (← c.is_flagged.ensures, c.if-is_flagged.true, length-map c.args.constraints.now (λ x. x.now))
+returns-then-not-is_flagged c = rw (← c.is_flagged.ensures, c.if-not-is_flagged.true)
 
-pub returns : goal.returns
+pub returns-else-not-is_flagged : goal.returns-else-not-is_flagged
 unfolding is_whole
-returns c = rw (← c.is_flagged.ensures, c.if-is_flagged.false)
+returns-else-not-is_flagged c = rw (← c.is_flagged.ensures, c.if-not-is_flagged.false, length-map c.args.constraints.now (λ x. x.now))

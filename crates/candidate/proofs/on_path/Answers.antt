@@ -1,43 +1,23 @@
-use mathlib.Core.List.{map}
-use mathlib.Core.Path.{sym, ◌∙◌}
-use Rattle.lent.specs.Lent.{readings_in}
-use Rattle.candidate.specs.Model.{on_path_in}
-use Rattle.lent.proofs.Laws.{path_start, path_turn, path_found, path_end}
-use Rattle.candidate.proofs.Laws.{both_at}
+use Prim.Native.Nat.{ℕ, ◌+◌, ◌<◌}
+use mathlib.Core.Path.{◌∙◌}
+use lib.ListN.{length, take}
 use native.Mathlib.Omega.{arith}
+use borrow.Author.Tests.{tests}
+use Rattle.std.proofs.Common.{rules}
+use Rattle.std.proofs.lemmas.Iterator.Adapters.{YieldsList-from_rev_slice}
+use Rattle.std.proofs.lemmas.Iterator.Search.{any_from_yields_List}
+use Rattle.rows.specs.Model.{outlined}
+use Rattle.lent.specs.Lent.{readings, certificates}
+use Rattle.lent.proofs.Laws.{some_upward}
+use Rattle.candidate.specs.Model.{has_both_as, on_path_in}
 use Rattle.candidate.proofs.on_path.Goals as goal
-
-pub overflow_add-k : goal.overflow_add-k
-overflow_add-k c = omega arith
-
-pub loop-k-init : goal.loop-k-init
-loop-k-init c = path_start _ _ _
-
-pub overflow_sub-k : goal.overflow_sub-k
-overflow_sub-k c = omega arith
-
-pub number_at-n-requires : goal.number_at-n-requires
-number_at-n-requires c = tt
-
-pub certificate-t-requires : goal.certificate-t-requires
-certificate-t-requires c = tt
-
-pub outline-outline-requires : goal.outline-outline-requires
-outline-outline-requires c = tt
-
-pub has_both-requires : goal.has_both-requires
-has_both-requires c = tt
-
-pub returns-then-has_both : goal.returns-then-has_both
-unfolding on_path_in
-returns-then-has_both c = path_found _ _ _ _ (omega arith) c.number_at-n.ensures (both_at (readings_in c.args.table.now (map (λ x. x.now) c.args.issuers.now) c.args.end.now c.args.anchors) _ _ _ _ _ _ _ c.certificate-t.ensures c.outline-outline.ensures (sym c.has_both.ensures ∙ c.if-has_both.true)) c.loop-k.invariant
-
-pub loop-k-smaller : goal.loop-k-smaller
-loop-k-smaller c = omega arith
-
-pub loop-k-preserved : goal.loop-k-preserved
-loop-k-preserved c = path_turn _ _ _ _ (omega arith) c.number_at-n.ensures (both_at (readings_in c.args.table.now (map (λ x. x.now) c.args.issuers.now) c.args.end.now c.args.anchors) _ _ _ _ _ _ _ c.certificate-t.ensures c.outline-outline.ensures (sym c.has_both.ensures ∙ c.if-has_both.false)) c.loop-k.invariant
 
 pub returns : goal.returns
 unfolding on_path_in
-returns c = path_end _ _ _ _ (omega arith) c.loop-k.invariant
+returns c =
+    let a = c.args in
+    let l = a.lent.now in
+    let both = λ (n : ℕ). has_both_as (outlined (readings l n)) a.s.now a.subject a.key (certificates l n) in
+    let h : a.depth < length a.path = omega arith in
+    any_from_yields_List both _ _ _ c.any.ensures.ran (YieldsList-from_rev_slice (take (a.depth + 1) a.path) (rw c.rev.ensures.source c.iter.ensures.rest)) (λ x b q k. search (rules, tests))
+    ∙ some_upward both a.path a.depth h

@@ -1,7 +1,7 @@
 use mathlib.Core.Path.{sym, ◌∙◌}
 use lib.ListN.{length-map}
-use Rattle.candidate.proofs.Laws.{verdict_deep, verdict_refused, verdict_anchor, verdict_issuer}
 use native.Mathlib.Omega.{arith}
+use Rattle.candidate.proofs.Laws.{verdict_deep, verdict_refused, verdict_anchor, verdict_issuer}
 use Rattle.candidate.proofs.verdict_on.Goals as goal
 
 pub returns-then-depth-gt-MOST_INTERMEDIATES : goal.returns-then-depth-gt-MOST_INTERMEDIATES
@@ -9,38 +9,31 @@ returns-then-depth-gt-MOST_INTERMEDIATES c =
     let a = c.args in
     verdict_deep _ _ _ a.path a.depth _ _ _ _ _ a.i (omega arith)
 
-pub number_at-n-requires : goal.number_at-n-requires
-number_at-n-requires c = tt
-
-pub certificate-head-requires : goal.certificate-head-requires
-certificate-head-requires c = tt
-
-pub outline-requires : goal.outline-requires
-outline-requires c = tt
-
-pub returns-then-i-anchors : goal.returns-then-i-anchors
-returns-then-i-anchors c =
+pub returns-then-i-lent : goal.returns-then-i-lent
+returns-then-i-lent c =
     let a = c.args in
-    c.anchor_at.ensures ∙ verdict_anchor _ _ _ a.path a.depth _ _ _ _ _ _
-    (sym (length-map a.subjects.now (λ x. x.now))) (omega arith) c.number_at-n.ensures c.certificate-head.ensures
-    (sym c.outline.ensures ∙ c.in-Is.is) (omega arith)
+    let lends = c.lent-lent.ensures in
+    let head = rw lends at c.certificate-head.ensures in
+    let read = rw lends at c.in-Ok.ensures in
+    let few = rw lends at c.if-i-lent.true in
+    c.anchor_at.ensures
+    ∙ verdict_anchor _ _ _ a.path a.depth _ _ _ _ _ _ (sym (length-map a.request.now.anchors.subjects.now (λ x. x.now))) (omega arith) c.number_at-n.ensures head (sym read) few
 
-pub certificate-s-requires : goal.certificate-s-requires
-certificate-s-requires c = tt
-
-pub outline-outline-requires : goal.outline-outline-requires
-outline-outline-requires c = tt
-
-pub returns-else-i-anchors : goal.returns-else-i-anchors
-returns-else-i-anchors c =
+pub returns-else-i-lent : goal.returns-else-i-lent
+returns-else-i-lent c =
     let a = c.args in
-    c.issuer_verdict.ensures ∙ verdict_issuer _ _ _ a.path a.depth _ _ _ _ _ _
-    (sym (length-map a.subjects.now (λ x. x.now))) (omega arith) c.number_at-n.ensures c.certificate-head.ensures
-    (sym c.outline.ensures ∙ c.in-Is.is) (omega arith) c.certificate-s.ensures c.outline-outline.ensures
+    let lends = c.lent-lent.ensures in
+    let head = rw lends at c.certificate-head.ensures in
+    let read = rw lends at c.in-Ok.ensures in
+    let many = rw lends at c.if-i-lent.false in
+    rw lends at c.issuer_verdict.ensures
+    ∙ verdict_issuer _ _ _ a.path a.depth _ _ _ _ _ _ (sym (length-map a.request.now.anchors.subjects.now (λ x. x.now))) (omega arith) c.number_at-n.ensures head (sym read) many
+    (rw lends at c.certificate.ensures) (rw lends at c.outline-in-Ok.ensures)
 
-pub returns-in-Refused : goal.returns-in-Refused
-returns-in-Refused c =
+pub returns-in-Err : goal.returns-in-Err
+returns-in-Err c =
     let a = c.args in
-    verdict_refused _ _ _ a.path a.depth _ _ _ _ _ _
-    (sym (length-map a.subjects.now (λ x. x.now))) (omega arith) c.number_at-n.ensures c.certificate-head.ensures
-    (sym c.outline.ensures ∙ c.in-Refused.is)
+    let lends = c.lent-lent.ensures in
+    let head = rw lends at c.certificate-head.ensures in
+    let read = rw lends at c.in-Err.ensures in
+    verdict_refused _ _ _ a.path a.depth _ _ _ _ _ _ (sym (length-map a.request.now.anchors.subjects.now (λ x. x.now))) (omega arith) c.number_at-n.ensures head (sym read)

@@ -1,25 +1,18 @@
+-- `checks::basic_in` meets its contract. Assumes nothing.
+use Rattle.std.proofs.Common.{rules}
 use Rattle.extensions.specs.Model.{on_truth}
 use Rattle.checks.specs.Model.{basic_in}
-use Rattle.der.proofs.Laws.{tests}
+use Rattle.checks.proofs.Outcomes.{bool_passed}
 use Rattle.checks.proofs.basic_in.Goals as goal
 
-pub read_bool-requires : goal.read_bool-requires
-read_bool-requires c = tt
-
-pub in_role-requires : goal.in_role-requires
-in_role-requires c = tt
+pub returns-in_err-authority : goal.returns-in_err-authority
+unfolding basic_in on_truth
+returns-in_err-authority c = search (rules, bool_passed _ _ _ c.in_err-authority.ensures)
 
 pub returns-then-next-to : goal.returns-then-next-to
 unfolding basic_in on_truth
-returns-then-next-to c = search (tests, ← c.read_bool.ensures, c.in-Is.is, ← c.in_role.ensures)
+returns-then-next-to c = search rules
 
-pub bounded_role-requires : goal.bounded_role-requires
-bounded_role-requires c = tt
-
-pub returns-else-next-to : goal.returns-else-next-to
+pub returns : goal.returns
 unfolding basic_in on_truth
-returns-else-next-to c = search (tests, ← c.read_bool.ensures, c.in-Is.is, ← c.bounded_role.ensures)
-
-pub returns-in-Refused : goal.returns-in-Refused
-unfolding basic_in on_truth
-returns-in-Refused c = rw (← c.read_bool.ensures, c.in-Refused.is)
+returns c = search rules

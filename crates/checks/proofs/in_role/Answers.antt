@@ -1,23 +1,21 @@
+-- `checks::in_role` meets its contract. Assumes nothing.
+use Rattle.std.proofs.Common.{rules}
+use Rattle.refusal.specs.Model.{outcome}
 use Rattle.checks.specs.Model.{in_role}
-use Rattle.der.proofs.Laws.{tests}
 use Rattle.checks.proofs.in_role.Goals as goal
 
-pub returns-then-length-below : goal.returns-then-length-below
-unfolding in_role
-returns-then-length-below c = search (tests, c.if-issuer.true, c.if-authority.true)
+pub returns-in-true-true : goal.returns-in-true-true
+unfolding in_role outcome
+returns-in-true-true c = search rules
 
-pub returns-then-authority : goal.returns-then-authority
-unfolding in_role
-returns-then-authority c = search (tests, c.if-issuer.true, c.if-authority.true)
+pub returns-in-true-false : goal.returns-in-true-false
+unfolding in_role outcome
+returns-in-true-false c = search rules
 
-pub returns-then-issuer : goal.returns-then-issuer
-unfolding in_role
-returns-then-issuer c = rw (c.if-issuer.true, c.if-authority.false)
+pub returns-in-false-true : goal.returns-in-false-true
+unfolding in_role outcome
+returns-in-false-true c = search rules
 
-pub returns-then-authority-2 : goal.returns-then-authority-2
-unfolding in_role
-returns-then-authority-2 c = rw (c.if-issuer.false, c.if-authority-2.true)
-
-pub returns : goal.returns
-unfolding in_role
-returns c = rw (c.if-issuer.false, c.if-authority-2.false)
+pub returns-in_default : goal.returns-in_default
+unfolding in_role outcome
+returns-in_default c = search rules

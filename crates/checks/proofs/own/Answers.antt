@@ -1,24 +1,18 @@
-use Rattle.checks.specs.Model.{own_of, first_of}
-use Rattle.der.proofs.Laws.{tests}
+-- `checks::own` meets its contract. Assumes nothing.
+use mathlib.Core.Path.{◌∙◌}
+use Rattle.der.proofs.Laws.{handed_on}
+use Rattle.checks.specs.Model.{own_of}
+use Rattle.checks.proofs.Outcomes.{first_err, first_ok}
 use Rattle.checks.proofs.own.Goals as goal
 
-pub validity-late-requires : goal.validity-late-requires
-validity-late-requires c = tt
+pub returns-in_err-validity : goal.returns-in_err-validity
+unfolding own_of
+returns-in_err-validity c = handed_on _ c.from_residual.ensures ∙ first_err _ _ c.in_err-validity.ensures
 
-pub returns-then-late-ne0 : goal.returns-then-late-ne0
-unfolding own_of first_of
-returns-then-late-ne0 c = search (tests, ← c.validity-late.ensures)
-
-pub basic-misplaced-requires : goal.basic-misplaced-requires
-basic-misplaced-requires c = tt
-
-pub returns-then-misplaced-ne0 : goal.returns-then-misplaced-ne0
-unfolding own_of first_of
-returns-then-misplaced-ne0 c = search (tests, ← c.validity-late.ensures, ← c.basic-misplaced.ensures)
-
-pub purposes-requires : goal.purposes-requires
-purposes-requires c = tt
+pub returns-in_err-basic : goal.returns-in_err-basic
+unfolding own_of
+returns-in_err-basic c = handed_on _ c.from_residual-in_err-basic.ensures ∙ first_ok _ _ c.in_ok-validity.ensures (first_err _ _ c.in_err-basic.ensures)
 
 pub returns : goal.returns
-unfolding own_of first_of
-returns c = search (tests, ← c.validity-late.ensures, ← c.basic-misplaced.ensures, ← c.purposes.ensures)
+unfolding own_of
+returns c = first_ok _ _ c.in_ok-validity.ensures (first_ok _ _ c.in_ok-basic.ensures c.purposes.ensures)

@@ -1,25 +1,21 @@
 -- `constraints::own` meets its contract. Assumes nothing.
-use mathlib.Core.Path.{sym, ap, ◌∙◌}
-use Rattle.entries.specs.Tally.{spend}
-use Rattle.entries.proofs.Spending.{at_once}
+use native.Mathlib.Omega.{arith}
+use Rattle.entries.proofs.Leaving.{along, nothing, refused_at_once}
 use Rattle.subtrees.specs.Noted.{noted}
 use Rattle.constraints.proofs.Turns.{own_bound, own_free, own_unread}
 use Rattle.constraints.proofs.own.Goals as goal
 
-pub constrain-requires : goal.constrain-requires
-constrain-requires c = tt
-
 pub returns-then-held : goal.returns-then-held
 returns-then-held c =
     let a = c.args in
-    c.constrain.ensures ∙ ap (spend _) (sym (own_bound (noted a.t.now a.reading) _ _ c.in-Accepted.is c.if-held.true))
+    along (own_bound (noted a.t.now a.reading) _ _ c.in-Ok.is c.if-held.true) c.constrain.ensures
 
-pub returns-else-held : goal.returns-else-held
-returns-else-held c =
+pub returns : goal.returns
+returns c =
     let a = c.args in
-    sym (at_once _ 0) ∙ ap (spend _) (sym (own_free (noted a.t.now a.reading) _ _ c.in-Accepted.is c.if-held.false))
+    along (own_free (noted a.t.now a.reading) _ _ c.in-Ok.is c.if-held.false) (nothing _)
 
-pub returns-in-Refused : goal.returns-in-Refused
-returns-in-Refused c =
+pub returns-in_default : goal.returns-in_default
+returns-in_default c =
     let a = c.args in
-    sym (at_once _ _) ∙ ap (spend _) (sym (own_unread (noted a.t.now a.reading) _ _ c.in-Refused.is))
+    along (own_unread (noted a.t.now a.reading) _ _ c.in_default.is) (refused_at_once _ _ (λ z. omega arith))

@@ -1,25 +1,30 @@
 -- `constraints::path_constraints` meets its contract: what is left of the issuers, with what is left of the budget, has the answer of the whole. Assumes nothing.
-use mathlib.Core.List.{map}
 use native.Mathlib.Omega.{arith}
-use Rattle.entries.proofs.Spending.{refused_first, passed_first}
-use Rattle.constraints.specs.Paths.{cert_at}
+use Rattle.der.proofs.Laws.{handed_on}
+use Rattle.entries.proofs.Leaving.{first_refused, goes_on, turns_on, turns_out, turns_end}
+use Rattle.constraints.specs.Paths.{noted_at}
 use Rattle.constraints.specs.Model.{path_constraints_in}
-use Rattle.constraints.proofs.Turns.{issuers_refuse, issuers_go, issuers_end}
+use Rattle.constraints.proofs.Turns.{issuers_turn, issuers_end}
 use Rattle.constraints.proofs.path_constraints.Goals as goal
 
-pub returns-then-first-ne0 : goal.returns-then-first-ne0
+pub returns-in_err-anchored : goal.returns-in_err-anchored
 unfolding path_constraints_in
-returns-then-first-ne0 c = refused_first _ _ _ _ c.anchored-first.ensures c.if-first-ne0.true
+returns-in_err-anchored c = rw (handed_on _ c.from_residual.ensures) (first_refused _ c.in_err-anchored.ensures)
 
 pub loop-k-init : goal.loop-k-init
 unfolding path_constraints_in
-loop-k-init c = passed_first _ _ _ _ c.anchored-first.ensures c.if-first-ne0.false
+loop-k-init c = goes_on _ c.in_ok-anchored.ensures
 
-pub returns-then-one-ne0 : goal.returns-then-one-ne0
-returns-then-one-ne0 c = issuers_refuse (cert_at c.args.table.now (map (λ x. x.now) c.args.issuers.now) c.args.end.now c.args.anchors) _ _ _ _ _ _ c.number_at-n.ensures (omega arith) c.issuer-one.ensures c.loop-k.invariant c.if-one-ne0.true
+pub returns-in_err-issuer : goal.returns-in_err-issuer
+returns-in_err-issuer c =
+    let a = c.args in
+    rw (handed_on _ c.from_residual-in_err-issuer.ensures)
+    (turns_out _ c.in_err-issuer.ensures (issuers_turn (noted_at a.lent.now) _ _ (omega arith) c.number_at.ensures) c.loop-k.invariant)
 
 pub loop-k-preserved : goal.loop-k-preserved
-loop-k-preserved c = issuers_go (cert_at c.args.table.now (map (λ x. x.now) c.args.issuers.now) c.args.end.now c.args.anchors) _ _ _ _ _ _ c.number_at-n.ensures (omega arith) c.issuer-one.ensures c.loop-k.invariant c.if-one-ne0.false
+loop-k-preserved c =
+    let a = c.args in
+    turns_on _ c.in_ok-issuer.ensures (issuers_turn (noted_at a.lent.now) _ _ (omega arith) c.number_at.ensures) c.loop-k.invariant
 
 pub returns : goal.returns
-returns c = issuers_end (cert_at c.args.table.now (map (λ x. x.now) c.args.issuers.now) c.args.end.now c.args.anchors) _ _ _ _ (omega arith) c.loop-k.invariant
+returns c = turns_end (issuers_end _ _ _ (omega arith)) c.loop-k.invariant

@@ -4,29 +4,8 @@ use Rattle.der.proofs.Laws.{number_two, long_none, long_less, long_is}
 use Rattle.der.specs.Model.{least}
 use Rattle.der.proofs.long_2.Goals as goal
 
-pub overflow_sub-to : goal.overflow_sub-to
-overflow_sub-to c = omega (arith, c.requires)
-
 pub returns-then-to-at-le2 : goal.returns-then-to-at-le2
 returns-then-to-at-le2 c = sym (long_none _ _ _ _ c.if-to-at-le2.true)
-
-pub overflow_add-at : goal.overflow_add-at
-overflow_add-at c = omega (arith, c.if-to-at-le2.false, c.ranges.to)
-
-pub byte_at-a-requires : goal.byte_at-a-requires
-byte_at-a-requires c = omega (arith, c.if-to-at-le2.false, c.requires)
-
-pub overflow_add-at-2 : goal.overflow_add-at-2
-overflow_add-at-2 c = omega (arith, c.if-to-at-le2.false, c.ranges.to)
-
-pub byte_at-b-requires : goal.byte_at-b-requires
-byte_at-b-requires c = omega (arith, c.if-to-at-le2.false, c.requires)
-
-pub overflow_mul-len : goal.overflow_mul-len
-overflow_mul-len c = omega (arith, c.byte_at-a.ensures.small)
-
-pub overflow_add-len : goal.overflow_add-len
-overflow_add-len c = omega (arith, c.byte_at-a.ensures.small, c.byte_at-b.ensures.small)
 
 pub returns-then-len-lt256 : goal.returns-then-len-lt256
 unfolding least
@@ -34,9 +13,6 @@ returns-then-len-lt256 c =
     let a = c.args in
     let n = number_two a.s.now a.at c.byte_at-a.ensures.is c.byte_at-b.ensures.is in
     sym (long_less _ _ _ _ c.if-to-at-le2.false (omega (arith, n, c.if-len-lt256.true)))
-
-pub overflow_add-result : goal.overflow_add-result
-overflow_add-result c = omega (arith, c.if-to-at-le2.false, c.ranges.to)
 
 pub returns : goal.returns
 unfolding least

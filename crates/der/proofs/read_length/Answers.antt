@@ -1,41 +1,20 @@
+use Prim.Native.Nat.{◌<◌, ◌≤◌}
 use native.Mathlib.Omega.{arith}
 use mathlib.Core.Path.{sym, ◌∙◌}
 use lib.Dec.{lit<, lit≤}
-use borrow.Author.Tests.{lt-ltb, le-ltb, lt-leb}
 use Rattle.der.proofs.Laws.{tests, first_none, length_long}
 use Rattle.der.specs.Model.{read_length, by_first}
 use Rattle.der.proofs.read_length.Goals as goal
 
 pub returns-then-s-to : goal.returns-then-s-to
+unfolding read_length
+returns-then-s-to c = grind (arith, tests)
+
+pub returns-in-0-to-127 : goal.returns-in-0-to-127
 unfolding read_length by_first
-returns-then-s-to c = search tests
-
-pub returns-then-to-at : goal.returns-then-to-at
-unfolding read_length by_first
-returns-then-to-at c = search tests
-
-pub byte_at-first-requires : goal.byte_at-first-requires
-byte_at-first-requires c = omega (arith, c.if-to-at.false, c.if-s-to.false)
-
-pub overflow_add-result : goal.overflow_add-result
-overflow_add-result c = omega (arith, c.if-to-at.false, c.ranges.to)
-
-pub returns-then-first-lt128 : goal.returns-then-first-lt128
-unfolding read_length by_first
-returns-then-first-lt128 c =
-    simp (le-ltb _ _ c.if-s-to.false, lt-leb _ _ c.if-to-at.false, ← c.byte_at-first.ensures.is, lt-ltb _ _ c.if-first-lt128.true)
-
-pub long_1-requires : goal.long_1-requires
-long_1-requires c = (c.if-to-at.false, c.if-s-to.false)
-
-pub long_2-requires : goal.long_2-requires
-long_2-requires c = (c.if-to-at.false, c.if-s-to.false)
-
-pub long_3-requires : goal.long_3-requires
-long_3-requires c = (c.if-to-at.false, c.if-s-to.false)
-
-pub long_4-requires : goal.long_4-requires
-long_4-requires c = (c.if-to-at.false, c.if-s-to.false)
+returns-in-0-to-127 c =
+    let a : c.byte_at-first.result < 128 = omega arith in
+    search (tests, ← c.byte_at-first.ensures.is)
 
 pub returns-in-129 : goal.returns-in-129
 returns-in-129 c =
@@ -56,7 +35,6 @@ returns-in-132 c =
 pub returns-in_default : goal.returns-in_default
 unfolding read_length
 returns-in_default c =
-    let a = c.args in
     let b = c.byte_at-first in
-    let other = c.in_default.in_default-own.rest in
-    search (tests, ← b.ensures.is, first_none a.s.now a.at a.to b.result c.if-first-lt128.false other.0.0.0.1 other.0.0.1 other.0.1 other.1)
+    let lo : 128 ≤ b.result = omega arith in
+    search (tests, ← b.ensures.is, first_none c.args.s.now c.args.at c.args.to b.result lo (λ e. omega arith) (λ e. omega arith) (λ e. omega arith) (λ e. omega arith))

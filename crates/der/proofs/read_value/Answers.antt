@@ -2,9 +2,6 @@ use borrow.Author.Rules.{rules}
 use Rattle.der.specs.Model.{read_value}
 use Rattle.der.proofs.read_value.Goals as goal
 
-pub read_limited-requires : goal.read_limited-requires
-read_limited-requires c = tt
-
 pub returns : goal.returns
 unfolding read_value
 returns c = search rules

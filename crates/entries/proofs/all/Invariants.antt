@@ -7,7 +7,7 @@ use Rattle.entries.proofs.all.Given as goal
 
 abbrev pub invariant-loop-at : goal.invariant-loop-at
 invariant-loop-at l =
-    Paying l.to ended (λ a x. go_on (judged l.s l.to l.excluded l.kind l.p a x)) (spend l.left (entries l.s l.from l.to l.excluded l.kind l.p)) l.rest l.at l.seen
+    Paying l.to ended (λ a x. go_on (judged l.s l.to l.excluded l.kind l.p a x)) (spend l.initial.left (entries l.s l.from l.to l.excluded l.kind l.p)) l.left l.at l.seen
 
 abbrev pub decreases-loop-at : goal.decreases-loop-at
 decreases-loop-at l = l.to - l.at

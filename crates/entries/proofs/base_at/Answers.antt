@@ -1,21 +1,21 @@
 -- `entries::base_at` meets its contract. Assumes nothing.
-use Rattle.der.proofs.Laws.{tests}
+use Rattle.std.proofs.Common.{rules}
 use Rattle.der.specs.Model.{on_content}
 use Rattle.entries.specs.Model.{base_at, on_name}
 use Rattle.entries.proofs.base_at.Goals as goal
 
-pub returns-in-Refused : goal.returns-in-Refused
+pub returns-in_err-whole : goal.returns-in_err-whole
 unfolding base_at on_content on_name
-returns-in-Refused c = search (← c.expect.ensures, c.in-Refused.is)
+returns-in_err-whole c = search rules
 
-pub returns-then-end-whole : goal.returns-then-end-whole
+pub returns-in_err-base : goal.returns-in_err-base
 unfolding base_at on_content on_name
-returns-then-end-whole c = search (tests, ← c.expect.ensures, c.in-Content.is, ← c.general_name.ensures, c.in-Found.is)
+returns-in_err-base c = search rules
 
-pub returns-else-end-whole : goal.returns-else-end-whole
+pub returns-then-base-whole : goal.returns-then-base-whole
 unfolding base_at on_content on_name
-returns-else-end-whole c = search (tests, ← c.expect.ensures, c.in-Content.is, ← c.general_name.ensures, c.in-Found.is)
+returns-then-base-whole c = search rules
 
-pub returns-in-Refused-general_name : goal.returns-in-Refused-general_name
+pub returns : goal.returns
 unfolding base_at on_content on_name
-returns-in-Refused-general_name c = search (← c.expect.ensures, c.in-Content.is, ← c.general_name.ensures, c.in-Refused-general_name.is)
+returns c = search rules

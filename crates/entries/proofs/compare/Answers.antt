@@ -1,36 +1,24 @@
 -- `entries::compare` meets its contract. Assumes nothing.
-use Rattle.der.proofs.Laws.{tests}
+use Rattle.std.proofs.Common.{rules}
 use Rattle.entries.specs.Model.{compared}
 use Rattle.entries.proofs.compare.Goals as goal
 
-pub returns-then-excluded : goal.returns-then-excluded
+pub returns-in-130 : goal.returns-in-130
 unfolding compared
-returns-then-excluded c = search (tests, c.if-excluded.true, c.match_excluded.ensures)
+returns-in-130 c = search rules
 
-pub returns-then-kind-eq-DNS : goal.returns-then-kind-eq-DNS
+pub returns-in-130-2 : goal.returns-in-130-2
 unfolding compared
-returns-then-kind-eq-DNS c = search (tests, c.if-excluded.false, c.match_permitted.ensures)
+returns-in-130-2 c = search rules
 
-pub returns-then-kind-eq-IP : goal.returns-then-kind-eq-IP
+pub returns-in-135 : goal.returns-in-135
 unfolding compared
-returns-then-kind-eq-IP c = search (tests, c.match_subnet.ensures)
+returns-in-135 c = search rules
 
-pub returns-then-excluded-2 : goal.returns-then-excluded-2
+pub returns-in-164 : goal.returns-in-164
 unfolding compared
-returns-then-excluded-2 c = search (tests, c.if-excluded-2.true)
+returns-in-164 c = search rules
 
-pub returns-then-kind-eq-DIRECTORY : goal.returns-then-kind-eq-DIRECTORY
+pub returns-in_default : goal.returns-in_default
 unfolding compared
-returns-then-kind-eq-DIRECTORY c = search (tests, c.if-excluded-2.false)
-
-pub returns-then-excluded-3 : goal.returns-then-excluded-3
-unfolding compared
-returns-then-excluded-3 c = search (tests, c.if-excluded-3.true)
-
-pub returns-then-kind-eq-URI : goal.returns-then-kind-eq-URI
-unfolding compared
-returns-then-kind-eq-URI c = search (tests, c.if-excluded-3.false)
-
-pub returns : goal.returns
-unfolding compared
-returns c = search tests
+returns-in_default c = search rules

@@ -1,23 +1,24 @@
 -- `entries::settle` meets its contract. Assumes nothing.
+use Rattle.std.proofs.Common.{rules}
 use Rattle.entries.specs.Model.{settled}
 use Rattle.entries.proofs.settle.Goals as goal
 
-pub returns-then-excluded : goal.returns-then-excluded
+pub returns-in_err-answer : goal.returns-in_err-answer
 unfolding settled
-returns-then-excluded c = search (c.in-Yes.is, c.if-excluded.true)
+returns-in_err-answer c = search rules
 
-pub returns-then-excluded-2 : goal.returns-then-excluded-2
+pub returns-in-true-true : goal.returns-in-true-true
 unfolding settled
-returns-then-excluded-2 c = search (c.in-No.is, c.if-excluded-2.true)
+returns-in-true-true c = search rules
 
-pub returns-else-excluded : goal.returns-else-excluded
+pub returns-in-true-false : goal.returns-in-true-false
 unfolding settled
-returns-else-excluded c = search (c.in-Yes.is, c.if-excluded.false)
+returns-in-true-false c = search rules
 
-pub returns-else-excluded-2 : goal.returns-else-excluded-2
+pub returns-in-false-true : goal.returns-in-false-true
 unfolding settled
-returns-else-excluded-2 c = search (c.in-No.is, c.if-excluded-2.false)
+returns-in-false-true c = search rules
 
-pub returns-in-Refused : goal.returns-in-Refused
+pub returns-in-false-false : goal.returns-in-false-false
 unfolding settled
-returns-in-Refused c = search c.in-Refused.is
+returns-in-false-false c = search rules

@@ -1,58 +1,26 @@
-use Rattle.envelope.proofs.Cases.{begun_case}
-use mathlib.Core.Path.{sym, ◌∙◌}
+use native.Mathlib.Omega.{arith}
 use Rattle.der.specs.Model.{on_content}
+use Rattle.std.proofs.lemmas.Result.{err_from_is_err_and}
+use Rattle.der.proofs.Laws.{tests}
 use Rattle.envelope.specs.Model.{begun}
 use Rattle.envelope.proofs.begin.Goals as goal
 
-pub version_at-requires : goal.version_at-requires
-version_at-requires c = tt
-
-pub returns-in-Refused : goal.returns-in-Refused
+pub returns-in_err-version : goal.returns-in_err-version
 unfolding begun on_content
-returns-in-Refused c =
-    rw (← c.version_at.ensures, c.in-Refused.is)
+returns-in_err-version c = let p = err_from_is_err_and c.from_residual.result c.from_residual.ensures.1 in grind (arith, tests)
 
-pub expect-requires : goal.expect-requires
-expect-requires c = tt
-
-pub returns-in-Refused-expect : goal.returns-in-Refused-expect
+pub returns-in_err-serial : goal.returns-in_err-serial
 unfolding begun on_content
-returns-in-Refused-expect c =
-    rw (
-      ← c.version_at.ensures,
-      c.in-Content.is,
-      ← c.expect.ensures,
-      c.in-Refused-expect.is,
-    )
+returns-in_err-serial c = let p = err_from_is_err_and c.from_residual-in_err-serial.result c.from_residual-in_err-serial.ensures.1 in grind (arith, tests)
 
-pub expect-requires-2 : goal.expect-requires-2
-expect-requires-2 c = tt
-
-pub returns-in-Refused-expect-2 : goal.returns-in-Refused-expect-2
+pub returns-in_err-algorithm : goal.returns-in_err-algorithm
 unfolding begun on_content
-returns-in-Refused-expect-2 c =
-    rw (
-      ← c.version_at.ensures,
-      c.in-Content.is,
-      ← c.expect.ensures,
-      c.in-Content-expect.is,
-      ← c.expect-2.ensures,
-      c.in-Refused-expect-2.is,
-    )
+returns-in_err-algorithm c = let p = err_from_is_err_and c.from_residual-in_err-algorithm.result c.from_residual-in_err-algorithm.ensures.1 in grind (arith, tests)
 
-pub same-requires : goal.same-requires
-same-requires c = tt
-
-pub returns-then-same : goal.returns-then-same
-returns-then-same c =
-    sym
-    (begun_case _ _ _ _
-    (sym c.version_at.ensures ∙ c.in-Content.is)
-    (sym c.expect.ensures ∙ c.in-Content-expect.is)
-    (sym c.expect-2.ensures ∙ c.in-Content-expect-2.is)
-    (sym c.same.ensures ∙ c.if-same.true))
-
-pub returns-else-same : goal.returns-else-same
+pub returns-then-not-same : goal.returns-then-not-same
 unfolding begun on_content
-returns-else-same c =
-    rw (← c.version_at.ensures, c.in-Content.is, ← c.expect.ensures, c.in-Content-expect.is, ← c.expect-2.ensures, c.in-Content-expect-2.is, ← c.same.ensures, c.if-same.false)
+returns-then-not-same c = grind (arith, tests)
+
+pub returns : goal.returns
+unfolding begun on_content
+returns c = grind (arith, tests)

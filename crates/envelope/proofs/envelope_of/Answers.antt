@@ -1,47 +1,22 @@
-use borrow.Author.Tests.{eq-eqb, ne_eqb}
+use native.Mathlib.Omega.{arith}
 use Rattle.der.specs.Model.{on_content}
+use Rattle.std.proofs.lemmas.Result.{err_from_is_err_and}
+use Rattle.der.proofs.Laws.{tests}
 use Rattle.envelope.specs.Model.{opened, on_parts}
 use Rattle.envelope.proofs.envelope_of.Goals as goal
 
-pub expect-requires : goal.expect-requires
-expect-requires c = tt
-
-pub returns-in-Refused : goal.returns-in-Refused
+pub returns-in_err-whole : goal.returns-in_err-whole
 unfolding opened on_parts on_content
-returns-in-Refused c =
-    rw (← c.expect.ensures, c.in-Refused.is)
+returns-in_err-whole c = let p = err_from_is_err_and c.from_residual.result c.from_residual.ensures.1 in grind (arith, tests)
 
-pub parts_in-requires : goal.parts_in-requires
-parts_in-requires c = tt
-
-pub returns-in-Refused-parts_in : goal.returns-in-Refused-parts_in
+pub returns-in_err-envelope : goal.returns-in_err-envelope
 unfolding opened on_parts on_content
-returns-in-Refused-parts_in c =
-    rw (
-      ← c.expect.ensures,
-      c.in-Content.is,
-      ← c.parts_in.ensures,
-      c.in-Refused-parts_in.is,
-    )
+returns-in_err-envelope c = let p = err_from_is_err_and c.from_residual-in_err-envelope.result c.from_residual-in_err-envelope.ensures.1 in grind (arith, tests)
 
 pub returns-then-whole-s : goal.returns-then-whole-s
 unfolding opened on_parts on_content
-returns-then-whole-s c =
-    rw (
-      ← c.expect.ensures,
-      c.in-Content.is,
-      ← c.parts_in.ensures,
-      c.in-Parts.is,
-      eq-eqb _ _ c.if-whole-s.true,
-    )
+returns-then-whole-s c = grind (arith, tests)
 
-pub returns-else-whole-s : goal.returns-else-whole-s
+pub returns : goal.returns
 unfolding opened on_parts on_content
-returns-else-whole-s c =
-    rw (
-      ← c.expect.ensures,
-      c.in-Content.is,
-      ← c.parts_in.ensures,
-      c.in-Parts.is,
-      ne_eqb _ _ c.if-whole-s.false,
-    )
+returns c = grind (arith, tests)

@@ -1,64 +1,26 @@
-use borrow.Author.Tests.{ne_eqb}
-use Rattle.envelope.proofs.Cases.{parts_case}
-use mathlib.Core.Path.{sym, ◌∙◌}
+use native.Mathlib.Omega.{arith}
 use Rattle.der.specs.Model.{on_content}
+use Rattle.std.proofs.lemmas.Result.{err_from_is_err_and}
+use Rattle.der.proofs.Laws.{tests}
 use Rattle.envelope.specs.Model.{parts_in}
 use Rattle.envelope.proofs.parts_in.Goals as goal
 
-pub expect-requires : goal.expect-requires
-expect-requires c = tt
-
-pub returns-in-Refused : goal.returns-in-Refused
+pub returns-in_err-content : goal.returns-in_err-content
 unfolding parts_in on_content
-returns-in-Refused c =
-    rw (← c.expect.ensures, c.in-Refused.is)
+returns-in_err-content c = let p = err_from_is_err_and c.from_residual.result c.from_residual.ensures.1 in grind (arith, tests)
 
-pub expect-requires-2 : goal.expect-requires-2
-expect-requires-2 c = tt
-
-pub returns-in-Refused-expect : goal.returns-in-Refused-expect
+pub returns-in_err-algorithm : goal.returns-in_err-algorithm
 unfolding parts_in on_content
-returns-in-Refused-expect c =
-    rw (
-      ← c.expect.ensures,
-      c.in-Content.is,
-      ← c.expect-2.ensures,
-      c.in-Refused-expect.is,
-    )
+returns-in_err-algorithm c = let p = err_from_is_err_and c.from_residual-in_err-algorithm.result c.from_residual-in_err-algorithm.ensures.1 in grind (arith, tests)
 
-pub bits_at-requires : goal.bits_at-requires
-bits_at-requires c = tt
-
-pub returns-in-Refused-bits_at : goal.returns-in-Refused-bits_at
+pub returns-in_err-signature : goal.returns-in_err-signature
 unfolding parts_in on_content
-returns-in-Refused-bits_at c =
-    rw (
-      ← c.expect.ensures,
-      c.in-Content.is,
-      ← c.expect-2.ensures,
-      c.in-Content-expect.is,
-      ← c.bits_at.ensures,
-      c.in-Refused-bits_at.is,
-    )
+returns-in_err-signature c = let p = err_from_is_err_and c.from_residual-in_err-signature.result c.from_residual-in_err-signature.ensures.1 in grind (arith, tests)
 
 pub returns-then-signature-to : goal.returns-then-signature-to
-returns-then-signature-to c =
-    sym
-    (parts_case _ _ _
-    (sym c.expect.ensures ∙ c.in-Content.is)
-    (sym c.expect-2.ensures ∙ c.in-Content-expect.is)
-    (sym c.bits_at.ensures ∙ c.in-Content-bits_at.is)
-    c.if-signature-to.true)
-
-pub returns-else-signature-to : goal.returns-else-signature-to
 unfolding parts_in on_content
-returns-else-signature-to c =
-    rw (
-      ← c.expect.ensures,
-      c.in-Content.is,
-      ← c.expect-2.ensures,
-      c.in-Content-expect.is,
-      ← c.bits_at.ensures,
-      c.in-Content-bits_at.is,
-      ne_eqb _ _ c.if-signature-to.false,
-    )
+returns-then-signature-to c = grind (arith, tests)
+
+pub returns : goal.returns
+unfolding parts_in on_content
+returns c = grind (arith, tests)

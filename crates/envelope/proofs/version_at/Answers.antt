@@ -1,60 +1,22 @@
-use borrow.Author.Tests.{eq-eqb, ne_eqb}
+use native.Mathlib.Omega.{arith}
 use Rattle.der.specs.Model.{on_content}
+use Rattle.std.proofs.lemmas.Result.{err_from_is_err_and}
+use Rattle.der.proofs.Laws.{tests}
 use Rattle.envelope.specs.Model.{version_at, is_version}
 use Rattle.envelope.proofs.version_at.Goals as goal
 
-pub expect-requires : goal.expect-requires
-expect-requires c = tt
-
-pub returns-in-Refused : goal.returns-in-Refused
+pub returns-in_err-version : goal.returns-in_err-version
 unfolding version_at is_version on_content
-returns-in-Refused c =
-    rw (← c.expect.ensures, c.in-Refused.is)
+returns-in_err-version c = let p = err_from_is_err_and c.from_residual.result c.from_residual.ensures.1 in grind (arith, tests)
 
-pub read_small-requires : goal.read_small-requires
-read_small-requires c = tt
+pub returns-in_err-value : goal.returns-in_err-value
+unfolding version_at is_version on_content
+returns-in_err-value c = let p = err_from_is_err_and c.from_residual-in_err-value.result c.from_residual-in_err-value.ensures.1 in grind (arith, tests)
 
 pub returns-then-value-ne2 : goal.returns-then-value-ne2
 unfolding version_at is_version on_content
-returns-then-value-ne2 c =
-    rw (
-      ← c.expect.ensures,
-      c.in-Content.is,
-      ← c.read_small.ensures,
-      c.in-Number.is,
-      ne_eqb _ _ c.if-value-ne2.true,
-    )
+returns-then-value-ne2 c = grind (arith, tests)
 
-pub returns-then-next-version : goal.returns-then-next-version
+pub returns : goal.returns
 unfolding version_at is_version on_content
-returns-then-next-version c =
-    rw (
-      ← c.expect.ensures,
-      c.in-Content.is,
-      ← c.read_small.ensures,
-      c.in-Number.is,
-      eq-eqb _ _ c.if-value-ne2.false,
-      ne_eqb _ _ c.if-next-version.true,
-    )
-
-pub returns-else-next-version : goal.returns-else-next-version
-unfolding version_at is_version on_content
-returns-else-next-version c =
-    rw (
-      ← c.expect.ensures,
-      c.in-Content.is,
-      ← c.read_small.ensures,
-      c.in-Number.is,
-      eq-eqb _ _ c.if-value-ne2.false,
-      eq-eqb _ _ c.if-next-version.false,
-    )
-
-pub returns-in-Refused-read_small : goal.returns-in-Refused-read_small
-unfolding version_at is_version on_content
-returns-in-Refused-read_small c =
-    rw (
-      ← c.expect.ensures,
-      c.in-Content.is,
-      ← c.read_small.ensures,
-      c.in-Refused-read_small.is,
-    )
+returns c = grind (arith, tests)

@@ -1,26 +1,22 @@
-use Rattle.der.proofs.Laws.{tests}
+use native.Mathlib.Omega.{arith}
 use Rattle.der.specs.Model.{on_content}
-use Rattle.extensions.specs.Model.{content_of}
+use Rattle.std.proofs.lemmas.Result.{err_from_is_err_and}
+use Rattle.der.proofs.Laws.{tests}
+use Rattle.extensions.specs.Model.{content_of, number}
 use Rattle.extensions.proofs.content_of.Goals as goal
 
-pub returns-then-kind-eq-KEY_USAGE : goal.returns-then-kind-eq-KEY_USAGE
-unfolding content_of on_content
-returns-then-kind-eq-KEY_USAGE c = search tests
+pub returns-in_err-content : goal.returns-in_err-content
+unfolding content_of on_content number
+returns-in_err-content c = let p = err_from_is_err_and c.from_residual.result c.from_residual.ensures.1 in grind (arith, tests)
 
-pub expect-requires : goal.expect-requires
-expect-requires c = tt
-
-pub returns-in-Refused : goal.returns-in-Refused
-unfolding content_of on_content
-returns-in-Refused c =
-    search (tests, ← c.expect.ensures, c.in-Refused.is)
+pub returns-in-KeyUsage : goal.returns-in-KeyUsage
+unfolding content_of on_content number
+returns-in-KeyUsage c = grind (arith, tests)
 
 pub returns-then-content-value : goal.returns-then-content-value
-unfolding content_of on_content
-returns-then-content-value c =
-    search (tests, ← c.expect.ensures, c.in-Content.is)
+unfolding content_of on_content number
+returns-then-content-value c = grind (arith, tests)
 
-pub returns-else-content-value : goal.returns-else-content-value
-unfolding content_of on_content
-returns-else-content-value c =
-    search (tests, ← c.expect.ensures, c.in-Content.is)
+pub returns : goal.returns
+unfolding content_of on_content number
+returns c = grind (arith, tests)

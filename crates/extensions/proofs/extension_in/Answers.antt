@@ -1,49 +1,22 @@
-use Rattle.extensions.proofs.Cases.{extension_case}
-use mathlib.Core.Path.{sym, ◌∙◌}
+use native.Mathlib.Omega.{arith}
 use Rattle.der.specs.Model.{on_content}
+use Rattle.std.proofs.lemmas.Result.{err_from_is_err_and}
+use Rattle.der.proofs.Laws.{tests}
 use Rattle.extensions.specs.Model.{extension_in, on_truth}
 use Rattle.extensions.proofs.extension_in.Goals as goal
 
-pub expect-requires : goal.expect-requires
-expect-requires c = tt
-
-pub returns-in-Refused : goal.returns-in-Refused
+pub returns-in_err-identifier : goal.returns-in_err-identifier
 unfolding extension_in on_truth on_content
-returns-in-Refused c =
-    rw (← c.expect.ensures, c.in-Refused.is)
+returns-in_err-identifier c = let p = err_from_is_err_and c.from_residual.result c.from_residual.ensures.1 in grind (arith, tests)
 
-pub read_bool-requires : goal.read_bool-requires
-read_bool-requires c = tt
-
-pub expect-requires-in-Is : goal.expect-requires-in-Is
-expect-requires-in-Is c = tt
-
-pub returns-in-Refused-expect : goal.returns-in-Refused-expect
+pub returns-in_err-critical : goal.returns-in_err-critical
 unfolding extension_in on_truth on_content
-returns-in-Refused-expect c =
-    rw (
-      ← c.expect.ensures,
-      c.in-Content.is,
-      ← c.read_bool.ensures,
-      c.in-Is.is,
-      ← c.expect-in-Is.ensures,
-      c.in-Refused-expect.is,
-    )
+returns-in_err-critical c = let p = err_from_is_err_and c.from_residual-in_err-critical.result c.from_residual-in_err-critical.ensures.1 in grind (arith, tests)
 
-pub returns-in-Content-expect : goal.returns-in-Content-expect
-returns-in-Content-expect c =
-    sym
-    (extension_case _ _ _
-    (sym c.expect.ensures ∙ c.in-Content.is)
-    (sym c.read_bool.ensures ∙ c.in-Is.is)
-    (sym c.expect-in-Is.ensures ∙ c.in-Content-expect.is))
-
-pub returns-in-Refused-read_bool : goal.returns-in-Refused-read_bool
+pub returns-in_err-value : goal.returns-in_err-value
 unfolding extension_in on_truth on_content
-returns-in-Refused-read_bool c =
-    rw (
-      ← c.expect.ensures,
-      c.in-Content.is,
-      ← c.read_bool.ensures,
-      c.in-Refused-read_bool.is,
-    )
+returns-in_err-value c = let p = err_from_is_err_and c.from_residual-in_err-value.result c.from_residual-in_err-value.ensures.1 in grind (arith, tests)
+
+pub returns : goal.returns
+unfolding extension_in on_truth on_content
+returns c = grind (arith, tests)

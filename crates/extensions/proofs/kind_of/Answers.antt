@@ -1,30 +1,29 @@
-use Rattle.der.proofs.Laws.{tests}
-use Rattle.extensions.specs.Model.{kind_of}
+use native.Mathlib.Omega.{arith}
+use Rattle.std.proofs.lemmas.Bool.Decides.{nat_tests}
+use Rattle.std.proofs.lemmas.Grind.{common_steps}
+use Rattle.extensions.specs.Model.{number_of, kind_of}
 use Rattle.extensions.proofs.kind_of.Goals as goal
 
-pub returns-then-s-to : goal.returns-then-s-to
-unfolding kind_of
-returns-then-s-to c = search tests
+pub returns-in-Some-eq85 : goal.returns-in-Some-eq85
+unfolding kind_of number_of
+returns-in-Some-eq85 c = grind (arith, nat_tests, common_steps, c.in-Some-eq85.ensures.lookup)
 
-pub returns-then-to-from : goal.returns-then-to-from
-unfolding kind_of
-returns-then-to-from c = search tests
+pub returns-in_default : goal.returns-in_default
+unfolding kind_of number_of
+returns-in_default c = let h = rw c.in_default.is at c.get.ensures.lookup in grind (arith, nat_tests, common_steps)
 
-pub returns-then-to-from-ne3 : goal.returns-then-to-from-ne3
-unfolding kind_of
-returns-then-to-from-ne3 c = search tests
+pub returns-in_default-2 : goal.returns-in_default-2
+unfolding kind_of number_of
+returns-in_default-2 c = let h = rw c.in_default.is at c.get.ensures.lookup in grind (arith, nat_tests, common_steps)
 
-pub returns-then-s-from-ne85 : goal.returns-then-s-from-ne85
-unfolding kind_of
-returns-then-s-from-ne85 c = search tests
+pub returns-in_default-3 : goal.returns-in_default-3
+unfolding kind_of number_of
+returns-in_default-3 c = let h = rw c.in_default.is at c.get.ensures.lookup in grind (arith, nat_tests, common_steps)
 
-pub returns-then-s-from-ne29 : goal.returns-then-s-from-ne29
-unfolding kind_of
-returns-then-s-from-ne29 c = search tests
+pub returns-in_default-4 : goal.returns-in_default-4
+unfolding kind_of number_of
+returns-in_default-4 c = let h = rw c.in_default.is at c.get.ensures.lookup in grind (arith, nat_tests, common_steps)
 
-pub known_kind-requires : goal.known_kind-requires
-known_kind-requires c = tt
-
-pub returns : goal.returns
-unfolding kind_of
-returns c = search (tests, ← c.known_kind.ensures)
+pub returns-in_default-5 : goal.returns-in_default-5
+unfolding kind_of number_of
+returns-in_default-5 c = let h = rw c.in_default.is at c.get.ensures.lookup in grind (arith, nat_tests, common_steps)

@@ -1,16 +1,17 @@
 -- `ip::broken_mask` meets its contract. Assumes nothing.
-use Rattle.ip.specs.Model.{broken_mask}
+use native.Mathlib.Omega.{arith}
 use Rattle.der.proofs.Laws.{tests}
+use Rattle.ip.specs.Model.{broken_mask}
 use Rattle.ip.proofs.broken_mask.Goals as goal
 
-pub returns-then-mask-eq0 : goal.returns-then-mask-eq0
+pub returns-then-not-full : goal.returns-then-not-full
 unfolding broken_mask
-returns-then-mask-eq0 c = search tests
+returns-then-not-full c = grind (arith, tests)
 
-pub returns-then-full : goal.returns-then-full
+pub returns-else-not-full : goal.returns-else-not-full
 unfolding broken_mask
-returns-then-full c = search (tests, c.if-full.true)
+returns-else-not-full c = grind (arith, tests)
 
-pub returns : goal.returns
+pub returns-else-mask-ne0 : goal.returns-else-mask-ne0
 unfolding broken_mask
-returns c = search (tests, c.if-full.false)
+returns-else-mask-ne0 c = grind (arith, tests)

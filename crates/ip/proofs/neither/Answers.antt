@@ -1,12 +1,13 @@
 -- `ip::neither` meets its contract. Assumes nothing.
-use Rattle.ip.specs.Model.{neither}
+use native.Mathlib.Omega.{arith}
 use Rattle.der.proofs.Laws.{tests}
+use Rattle.ip.specs.Model.{neither}
 use Rattle.ip.proofs.neither.Goals as goal
 
 pub returns-then-n-a : goal.returns-then-n-a
 unfolding neither
-returns-then-n-a c = search tests
+returns-then-n-a c = grind (arith, tests)
 
-pub returns : goal.returns
+pub returns-else-n-a : goal.returns-else-n-a
 unfolding neither
-returns c = search tests
+returns-else-n-a c = grind (arith, tests)

@@ -1,17 +1,12 @@
 -- `ip::same_address` meets its contract. Assumes nothing.
+use native.Mathlib.Omega.{arith}
 use Rattle.ip.specs.Model.{same_address}
 use Rattle.ip.proofs.same_address.Goals as goal
 
-pub neither-requires : goal.neither-requires
-neither-requires c = tt
-
-pub returns-then-neither : goal.returns-then-neither
+pub returns-then-not-neither : goal.returns-then-not-neither
 unfolding same_address
-returns-then-neither c = rw (← c.neither.ensures, c.if-neither.true)
+returns-then-not-neither c = grind arith
 
-pub same-requires : goal.same-requires
-same-requires c = tt
-
-pub returns : goal.returns
+pub returns-else-not-neither : goal.returns-else-not-neither
 unfolding same_address
-returns c = rw (← c.neither.ensures, c.if-neither.false, c.same.ensures)
+returns-else-not-neither c = grind arith

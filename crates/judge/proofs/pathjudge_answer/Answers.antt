@@ -4,15 +4,6 @@ use mathlib.Core.Path.{sym}
 use Rattle.judge.proofs.Laws.{shown_held, answered_held, answer_at}
 use Rattle.judge.proofs.pathjudge_answer.Goals as goal
 
-pub state_of-requires : goal.state_of-requires
-state_of-requires c = tt
-
-pub answer-s-requires : goal.answer-s-requires
-answer-s-requires c = tt
-
-pub shown-requires : goal.shown-requires
-shown-requires c = tt
-
 pub returns : goal.returns
 returns c h =
     let a = c.args in

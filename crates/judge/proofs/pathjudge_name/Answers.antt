@@ -1,12 +1,11 @@
 -- `judge::pathjudge_name` meets its contract. Assumes nothing.
+use Rattle.refusal.proofs.Laws.{outcome_ok, outcome_err}
+use mathlib.Core.Path.{sym, ◌∙◌}
 use Rattle.judge.proofs.Laws.{name_read}
 use Rattle.judge.proofs.pathjudge_name.Goals as goal
 
-pub read-requires : goal.read-requires
-read-requires c = tt
+pub returns-in-Ok : goal.returns-in-Ok
+returns-in-Ok c = name_read _ _ _ _ _ c.read.ensures (sym (outcome_ok _ (sym c.refusal_for.ensures ∙ c.in-Ok.is)))
 
-pub refusal_for-requires : goal.refusal_for-requires
-refusal_for-requires c = tt
-
-pub returns : goal.returns
-returns c = name_read _ _ _ _ _ c.read.ensures c.refusal_for.ensures
+pub returns-in-Err : goal.returns-in-Err
+returns-in-Err c = c.number.ensures ∙ name_read _ _ _ _ _ c.read.ensures (sym (outcome_err _ _ (sym c.refusal_for.ensures ∙ c.in-Err.is)))

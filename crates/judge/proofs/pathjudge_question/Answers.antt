@@ -2,14 +2,5 @@
 use Rattle.judge.proofs.Laws.{question_told}
 use Rattle.judge.proofs.pathjudge_question.Goals as goal
 
-pub state_of-requires : goal.state_of-requires
-state_of-requires c = tt
-
-pub asked-numbers-requires : goal.asked-numbers-requires
-asked-numbers-requires c = tt
-
-pub question-requires : goal.question-requires
-question-requires c = tt
-
 pub returns : goal.returns
 returns c h = question_told _ _ _ _ _ _ _ _ _ c.state_of.ensures c.asked-numbers.ensures c.question.ensures h

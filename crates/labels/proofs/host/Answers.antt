@@ -1,37 +1,25 @@
 -- `labels::host` meets its contract: what is left of the text, with the label so far, has the answer of the whole. Assumes nothing.
 use mathlib.Core.Path.{refl, sym, ◌∙◌}
+use native.Mathlib.Omega.{arith}
+use borrow.Author.Tests.{not-true, not-false}
 use Rattle.labels.specs.Model.{host_text}
 use Rattle.labels.proofs.Laws.{host_turn, host_bad, host_end}
-use native.Mathlib.Omega.{arith}
 use Rattle.labels.proofs.host.Goals as goal
 
-pub loop-i-init : goal.loop-i-init
+pub loop-b-init : goal.loop-b-init
 unfolding host_text
-loop-i-init c = (omega arith, refl)
+loop-b-init c = refl
 
-pub bounds-h-i : goal.bounds-h-i
-bounds-h-i c = omega arith
+pub returns-in_default : goal.returns-in_default
+returns-in_default c = sym (sym c.loop-b.invariant ∙ host_bad c.args.h.now c.loop-b.b-index _ (omega arith) (sym c.in_default.ensures))
 
-pub take_byte-requires : goal.take_byte-requires
-take_byte-requires c = tt
+pub loop-b-preserved : goal.loop-b-preserved
+loop-b-preserved c = host_turn c.args.h.now c.loop-b.b-index _ _ (omega arith) (sym c.in-Some.ensures) ∙ c.loop-b.invariant
 
-pub overflow_add-i : goal.overflow_add-i
-overflow_add-i c = omega arith
+pub returns-then-not-label : goal.returns-then-not-label
+returns-then-not-label c =
+    c.whole.ensures ∙ sym (sym c.loop-b.invariant ∙ host_end c.args.h.now c.loop-b.b-index _ (omega arith) ∙ rw (not-true c.loop-b.label.digits c.if-not-label.true))
 
-pub loop-i-smaller : goal.loop-i-smaller
-loop-i-smaller c = omega arith
-
-pub loop-i-preserved : goal.loop-i-preserved
-loop-i-preserved c = (omega arith, host_turn c.args.h.now c.loop-i.i _ _ (omega arith) (sym c.take_byte.ensures ∙ c.in-Next.is) ∙ c.loop-i.invariant.1)
-
-pub returns-in-Bad : goal.returns-in-Bad
-returns-in-Bad c = sym (sym c.loop-i.invariant.1 ∙ host_bad c.args.h.now c.loop-i.i _ (omega arith) (sym c.take_byte.ensures ∙ c.in-Bad.is))
-
-pub returns-then-label : goal.returns-then-label
-returns-then-label c = sym (sym c.loop-i.invariant.1 ∙ host_end c.args.h.now c.loop-i.i _ (omega arith) ∙ rw c.if-label.true)
-
-pub whole-requires : goal.whole-requires
-whole-requires c = tt
-
-pub returns : goal.returns
-returns c = c.whole.ensures ∙ sym (sym c.loop-i.invariant.1 ∙ host_end c.args.h.now c.loop-i.i _ (omega arith) ∙ rw c.if-label.false)
+pub returns-else-not-label : goal.returns-else-not-label
+returns-else-not-label c =
+    rw c.if-not-label.false (sym (sym c.loop-b.invariant ∙ host_end c.args.h.now c.loop-b.b-index _ (omega arith) ∙ rw (not-false c.loop-b.label.digits c.if-not-label.false)))

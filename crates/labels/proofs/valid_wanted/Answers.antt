@@ -7,12 +7,6 @@ pub returns-then-h-gt-LONGEST_NAME : goal.returns-then-h-gt-LONGEST_NAME
 unfolding valid_wanted
 returns-then-h-gt-LONGEST_NAME c = search tests
 
-pub relative-requires : goal.relative-requires
-relative-requires c = tt
-
-pub host-requires : goal.host-requires
-host-requires c = tt
-
 pub returns : goal.returns
 unfolding valid_wanted
 returns c = search (tests, c.host.ensures, c.relative.ensures)

@@ -1,16 +1,18 @@
 -- `labels::whole` meets its contract. Assumes nothing.
+use mathlib.Core.Path.{◌≡◌, refl}
+use mathlib.Core.Bool.{Bool, true, false, cond, not}
 use Rattle.labels.specs.Model.{whole}
 use Rattle.der.proofs.Laws.{tests}
 use Rattle.labels.proofs.whole.Goals as goal
 
-pub returns-then-size-eq0 : goal.returns-then-size-eq0
-unfolding whole
-returns-then-size-eq0 c = search tests
+not_is : (b : Bool) → not b ≡ cond b false true
+not_is true = refl
+not_is false = refl
 
-pub returns-then-l : goal.returns-then-l
+pub returns-then-l-ne0 : goal.returns-then-l-ne0
 unfolding whole
-returns-then-l c = search (tests, c.if-l.true)
+returns-then-l-ne0 c = search (tests, not_is)
 
-pub returns : goal.returns
+pub returns-else-l-ne0 : goal.returns-else-l-ne0
 unfolding whole
-returns c = search (tests, c.if-l.false)
+returns-else-l-ne0 c = rw c.if-l-ne0.false

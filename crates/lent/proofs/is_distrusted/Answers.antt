@@ -1,25 +1,13 @@
-use mathlib.Core.Path.{refl, sym, ◌∙◌}
-use Rattle.lent.proofs.Laws.{listed_turn, listed_found, listed_end}
-use native.Mathlib.Omega.{arith}
+use borrow.Author.Tests.{tests}
+use Rattle.std.proofs.lemmas.Iterator.{YieldsList-from_slice}
+use Rattle.std.proofs.lemmas.Iterator.Search.{any_from_yields_List}
+use Rattle.std.proofs.Common.{rules, length}
+use Rattle.parts.specs.Model.{same_parts}
+use Rattle.lent.proofs.Laws.{listed_any}
 use Rattle.lent.proofs.is_distrusted.Goals as goal
 
-pub loop-i-init : goal.loop-i-init
-loop-i-init c = refl
-
-pub same-requires : goal.same-requires
-same-requires c = tt
-
-pub returns-then-same : goal.returns-then-same
-returns-then-same c = listed_found c.args.distrusted.now _ _ _ _ _ (omega arith) (sym c.same.ensures ∙ c.if-same.true) c.loop-i.invariant
-
-pub overflow_add-i : goal.overflow_add-i
-overflow_add-i c = omega arith
-
-pub loop-i-smaller : goal.loop-i-smaller
-loop-i-smaller c = omega arith
-
-pub loop-i-preserved : goal.loop-i-preserved
-loop-i-preserved c = listed_turn c.args.distrusted.now _ _ _ _ _ (omega arith) (sym c.same.ensures ∙ c.if-same.false) c.loop-i.invariant
-
 pub returns : goal.returns
-returns c = listed_end c.args.distrusted.now _ _ _ c.loop-i.i (omega arith) c.loop-i.invariant
+returns c =
+    let a = c.args in
+    let r = any_from_yields_List (λ k. same_parts a.s.now a.from a.to k.now 0 (length k.now)) _ _ _ c.any.ensures.ran (YieldsList-from_slice a.distrusted.now cc) (λ x b q k. search (rules, tests)) in
+    rw (← listed_any a.s.now a.from a.to a.distrusted.now) r

@@ -4,4 +4,4 @@ use Rattle.moment.proofs.date_at.Goals as goal
 
 pub returns : goal.returns
 unfolding date_at
-returns c = simp (c.two_at-month.ensures, c.two_at-day.ensures, c.two_at-hour.ensures, c.two_at-minute.ensures, c.two_at-second.ensures)
+returns c = simp (c.two_at.ensures, c.two_at-2.ensures, c.two_at-3.ensures, c.two_at-4.ensures, c.two_at-5.ensures)

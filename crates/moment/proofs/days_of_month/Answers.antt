@@ -1,4 +1,4 @@
--- `moment::days_of_month` meets its contract: the table is the calendar. Assumes nothing.
+-- `moment::days_of_month` meets its contract. Assumes nothing.
 use mathlib.Core.Path.{sym, ◌∙◌}
 use mathlib.Core.Bool.{true, false}
 use native.Mathlib.Omega.{arith}
@@ -9,8 +9,8 @@ use Rattle.moment.proofs.days_of_month.Goals as goal
 pub returns-then-leap_year : goal.returns-then-leap_year
 returns-then-leap_year c = february _ _ true c.if-month-eq2.true (sym c.leap_year.ensures ∙ c.if-leap_year.true)
 
-pub returns-then-month-eq2 : goal.returns-then-month-eq2
-returns-then-month-eq2 c = february _ _ false c.if-month-eq2.true (sym c.leap_year.ensures ∙ c.if-leap_year.false)
+pub returns-else-leap_year : goal.returns-else-leap_year
+returns-else-leap_year c = february _ _ false c.if-month-eq2.true (sym c.leap_year.ensures ∙ c.if-leap_year.false)
 
 pub returns : goal.returns
 unfolding month_lengths

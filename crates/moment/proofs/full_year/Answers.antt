@@ -7,6 +7,6 @@ pub returns-then-digits-lt50 : goal.returns-then-digits-lt50
 unfolding full_year
 returns-then-digits-lt50 c = search tests
 
-pub returns : goal.returns
+pub returns-else-digits-lt50 : goal.returns-else-digits-lt50
 unfolding full_year
-returns c = search tests
+returns-else-digits-lt50 c = search tests

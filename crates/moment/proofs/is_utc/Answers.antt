@@ -1,16 +1,13 @@
 -- `moment::is_utc` meets its contract. Assumes nothing.
-use Rattle.der.proofs.Laws.{tests}
+use native.Mathlib.Omega.{arith}
+use Rattle.std.proofs.lemmas.Bool.Decides.{nat_tests}
 use Rattle.moment.specs.Model.{is_utc}
 use Rattle.moment.proofs.is_utc.Goals as goal
 
-pub returns-then-to-from : goal.returns-then-to-from
+pub returns-then-from-s : goal.returns-then-from-s
 unfolding is_utc
-returns-then-to-from c = search tests
+returns-then-from-s c = grind (arith, nat_tests)
 
-pub returns-then-s-from : goal.returns-then-s-from
+pub returns-else-from-s : goal.returns-else-from-s
 unfolding is_utc
-returns-then-s-from c = search tests
-
-pub returns : goal.returns
-unfolding is_utc
-returns c = search tests
+returns-else-from-s c = grind (arith, nat_tests)

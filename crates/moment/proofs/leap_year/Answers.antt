@@ -7,6 +7,6 @@ pub returns-then-year-eq0 : goal.returns-then-year-eq0
 unfolding leap_year
 returns-then-year-eq0 c = search tests
 
-pub returns : goal.returns
+pub returns-else-year-eq0 : goal.returns-else-year-eq0
 unfolding leap_year
-returns c = search tests
+returns-else-year-eq0 c = search tests

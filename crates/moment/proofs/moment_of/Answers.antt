@@ -13,8 +13,8 @@ pub returns-then-at-end : goal.returns-then-at-end
 unfolding moment_of
 returns-then-at-end c = search (tests, ← c.is_unreal.ensures, c.if-is_unreal.false)
 
-pub seconds_to-requires : goal.seconds_to-requires
-seconds_to-requires c = record { real = left_is_real _ (sym c.is_unreal.ensures ∙ c.if-is_unreal.false); years = c.requires }
+pub seconds_to-requires-clause-real : goal.seconds_to-requires-clause-real
+seconds_to-requires-clause-real c = left_is_real _ (sym c.is_unreal.ensures ∙ c.if-is_unreal.false)
 
 pub returns : goal.returns
 unfolding moment_of

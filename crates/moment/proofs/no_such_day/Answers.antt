@@ -1,20 +1,13 @@
 -- `moment::no_such_day` meets its contract. Assumes nothing.
-use Rattle.der.proofs.Laws.{tests}
+use native.Mathlib.Omega.{arith}
+use Rattle.std.proofs.lemmas.Bool.Decides.{nat_tests}
 use Rattle.moment.specs.Model.{no_such_day}
 use Rattle.moment.proofs.no_such_day.Goals as goal
 
-pub returns-then-month-lt1 : goal.returns-then-month-lt1
-unfolding no_such_day
-returns-then-month-lt1 c = search tests
-
-pub returns-then-month-gt12 : goal.returns-then-month-gt12
-unfolding no_such_day
-returns-then-month-gt12 c = search tests
-
 pub returns-then-day-lt1 : goal.returns-then-day-lt1
 unfolding no_such_day
-returns-then-day-lt1 c = search tests
+returns-then-day-lt1 c = grind (arith, nat_tests)
 
-pub returns : goal.returns
+pub returns-else-day-lt1 : goal.returns-else-day-lt1
 unfolding no_such_day
-returns c = search (tests, ← c.days_of_month.ensures)
+returns-else-day-lt1 c = grind (arith, nat_tests)

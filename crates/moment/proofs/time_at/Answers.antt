@@ -6,6 +6,6 @@ pub returns-then-is_utc : goal.returns-then-is_utc
 unfolding time_at
 returns-then-is_utc c = search (← c.is_utc.ensures, c.if-is_utc.true, c.utc_at.ensures)
 
-pub returns : goal.returns
+pub returns-else-is_utc : goal.returns-else-is_utc
 unfolding time_at
-returns c = search (← c.is_utc.ensures, c.if-is_utc.false, c.generalized_at.ensures)
+returns-else-is_utc c = search (← c.is_utc.ensures, c.if-is_utc.false, c.generalized_at.ensures)

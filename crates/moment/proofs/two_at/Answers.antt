@@ -1,24 +1,13 @@
 -- `moment::two_at` meets its contract. Assumes nothing.
-use Rattle.der.proofs.Laws.{tests}
+use native.Mathlib.Omega.{arith}
+use Rattle.std.proofs.lemmas.Bool.Decides.{nat_tests}
 use Rattle.moment.specs.Model.{two_at, of_digits}
 use Rattle.moment.proofs.two_at.Goals as goal
 
-pub returns-then-a-lt-ZERO : goal.returns-then-a-lt-ZERO
+pub returns-then-is_ascii_digit-2 : goal.returns-then-is_ascii_digit-2
 unfolding two_at of_digits
-returns-then-a-lt-ZERO c = search tests
+returns-then-is_ascii_digit-2 c = grind (arith, nat_tests)
 
-pub returns-then-a-gt-NINE : goal.returns-then-a-gt-NINE
+pub returns-else-is_ascii_digit : goal.returns-else-is_ascii_digit
 unfolding two_at of_digits
-returns-then-a-gt-NINE c = search tests
-
-pub returns-then-b-lt-ZERO : goal.returns-then-b-lt-ZERO
-unfolding two_at of_digits
-returns-then-b-lt-ZERO c = search tests
-
-pub returns-then-b-gt-NINE : goal.returns-then-b-gt-NINE
-unfolding two_at of_digits
-returns-then-b-gt-NINE c = search tests
-
-pub returns : goal.returns
-unfolding two_at of_digits
-returns c = search tests
+returns-else-is_ascii_digit c = grind (arith, nat_tests)

@@ -1,25 +1,13 @@
 use native.Mathlib.Omega.{arith}
 use mathlib.Core.Path.{sym, ◌∙◌}
-use Rattle.der.proofs.Laws.{tests, in_part, left_falls}
+use Rattle.der.proofs.Laws.{tests}
 use Rattle.parts.specs.Model.{same_parts}
-use Rattle.parts.proofs.Equal.{same_parts_lem, same_short, same_start, same_turn, same_differ, same_end, in_other}
+use Rattle.parts.proofs.Equal.{same_parts_lem, same_short, same_start, same_turn, same_differ, same_end}
 use Rattle.parts.proofs.same.Goals as goal
 
 pub returns-then-b-a : goal.returns-then-b-a
 unfolding same_parts
-returns-then-b-a c = search tests
-
-pub returns-then-s-b : goal.returns-then-s-b
-unfolding same_parts
-returns-then-s-b c = search tests
-
-pub returns-then-d-c : goal.returns-then-d-c
-unfolding same_parts
-returns-then-d-c c = search tests
-
-pub returns-then-t-d : goal.returns-then-t-d
-unfolding same_parts
-returns-then-t-d c = search tests
+returns-then-b-a c = grind (arith, tests)
 
 pub returns-then-b-a-2 : goal.returns-then-b-a-2
 returns-then-b-a-2 c =
@@ -31,33 +19,11 @@ pub loop-i-init : goal.loop-i-init
 loop-i-init c =
     (omega arith, same_start _ _ _ _ _ _ ∙ sym (same_parts_lem _ _ _ _ _ _ c.if-b-a.false c.if-s-b.false c.if-d-c.false c.if-t-d.false))
 
-pub overflow_add-a : goal.overflow_add-a
-overflow_add-a c = omega (arith, in_part _ _ _ c.loop-i-test.true, c.ranges.b)
-
-pub bounds-s-a : goal.bounds-s-a
-bounds-s-a c =
-    omega (arith, in_part _ _ _ c.loop-i-test.true, c.if-s-b.false)
-
-pub overflow_add-c : goal.overflow_add-c
-overflow_add-c c =
-    omega (arith, in_other _ _ _ _ _ c.loop-i-test.true c.if-b-a-2.false, c.ranges.d)
-
-pub bounds-t-c : goal.bounds-t-c
-bounds-t-c c =
-    omega (arith, in_other _ _ _ _ _ c.loop-i-test.true c.if-b-a-2.false, c.if-t-d.false)
-
 pub returns-then-s-a : goal.returns-then-s-a
 returns-then-s-a c =
     sym
     (sym c.loop-i.invariant.1
     ∙ same_differ _ _ _ _ _ _ _ c.loop-i-test.true c.if-b-a-2.false c.if-s-b.false c.if-t-d.false c.if-s-a.true)
-
-pub overflow_add-i : goal.overflow_add-i
-overflow_add-i c =
-    omega (arith, c.loop-i-test.true, c.ranges.b)
-
-pub loop-i-smaller : goal.loop-i-smaller
-loop-i-smaller c = left_falls _ _ c.loop-i-test.true
 
 pub loop-i-preserved : goal.loop-i-preserved
 loop-i-preserved c = (
@@ -70,4 +36,4 @@ pub returns : goal.returns
 returns c =
     sym
     (sym c.loop-i.invariant.1
-    ∙ same_end _ _ _ _ _ _ _ c.if-b-a.false c.if-d-c.false c.if-b-a-2.false c.loop-i.invariant.0 c.loop-i-test.false)
+    ∙ same_end _ _ _ _ _ _ _ c.if-b-a.false c.if-d-c.false c.if-b-a-2.false c.loop-i.invariant.0 (omega arith))

@@ -7,6 +7,3 @@ use Rattle.parts.proofs.same.Given as goal
 
 abbrev pub invariant-loop-i : goal.invariant-loop-i
 invariant-loop-i l = (l.i ≤ l.b - l.a) × (same_list (part l.s (l.a + l.i) l.b) (part l.t (l.c + l.i) l.d) ≡ same_parts l.s l.a l.b l.t l.c l.d)
-
-abbrev pub decreases-loop-i : goal.decreases-loop-i
-decreases-loop-i l = (l.b - l.a) - l.i

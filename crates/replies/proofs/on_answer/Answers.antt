@@ -1,33 +1,34 @@
 -- `replies::on_answer` meets its contract. Assumes nothing.
-use Rattle.machine.proofs.Moves.{denied}
-use Rattle.machine.proofs.Lent.{replied}
+use Rattle.lent.specs.Lent.{each_now}
+use Rattle.dialogue.specs.Model.{World}
+use Rattle.machine.specs.World.{JudgesBy}
 use Rattle.machine.specs.Machine.{key_at, what_at}
 use Rattle.machine.specs.declared.Numbers.{Numbers}
-use Rattle.lent.specs.Lent.{readings_in}
-use mathlib.Core.List.{map}
-use mathlib.Core.Path.{◌≡◌, sym, ap, ◌∙◌}
+use Rattle.machine.proofs.Moves.{denied}
+use Rattle.machine.proofs.Lent.{replied}
+use mathlib.Core.Path.{◌≡◌, refl, sym, ap, ◌∙◌}
 use Rattle.replies.proofs.on_answer.Goals as goal
+use Rattle.replies.proofs.on_answer.Goals.{After-reply_for-e}
 
-pub returns-then-e-ne0 : goal.returns-then-e-ne0
-returns-then-e-ne0 c W j =
-    let a = c.args in
-    let s = a.s in
-    let p = c.requires in
-    let told : W.reply (key_at s) (what_at s) a.answer ≡ c.reply_for-e.result = j.reply (key_at s) (what_at s) a.answer ∙ replied (readings_in a.table.now (map (λ x. x.now) a.issuers.now) a.end.now a.anchors) (map (λ x. x.now) a.issuers.now) a.end.now (map (λ x. x.now) a.keys.now) a.anchors _ _ _ a.answer _ c.reply_for-e.ensures (ap (λ (q : Numbers). q.key) c.asked-q.ensures) c.meaning.ensures in
-    denied W s p.0 p.1 a.answer c.reply_for-e.result c.worse-b.result told c.if-e-ne0.true c.worse-b.ensures
+-- what the answer comes to
+told : (c : After-reply_for-e) (W : World) → JudgesBy W c.args.lent.now (each_now c.args.anchors.now.keys.now) c.args.anchors.now
+    → W.reply (key_at c.args.s) (what_at c.args.s) c.args.answer ≡ c.reply_for-e.result
+told c W j =
+    j.reply (key_at c.args.s) (what_at c.args.s) c.args.answer
+    ∙ replied _ _ _ _ _ _ _ _ c.args.answer _ c.reply_for-e.ensures (ap (λ (q : Numbers). q.key) c.asked-key.ensures) c.meaning.ensures
+
+pub returns-then-number-ne0 : goal.returns-then-number-ne0
+returns-then-number-ne0 c W j =
+    rw c.refuse.ensures
+    (denied W c.args.s c.requires.0 c.requires.1 c.args.answer c.reply_for-e.result _ (told (goal.at.returns-then-number-ne0 c).After-reply_for-e W j)
+    (λ z. c.if-number-ne0.true (c.number.ensures ∙ z)) refl)
 
 pub returns-then-place-eq0 : goal.returns-then-place-eq0
 returns-then-place-eq0 c W j =
-    let a = c.args in
-    let s = a.s in
-    let p = c.requires in
-    let told : W.reply (key_at s) (what_at s) a.answer ≡ c.reply_for-e.result = j.reply (key_at s) (what_at s) a.answer ∙ replied (readings_in a.table.now (map (λ x. x.now) a.issuers.now) a.end.now a.anchors) (map (λ x. x.now) a.issuers.now) a.end.now (map (λ x. x.now) a.keys.now) a.anchors _ _ _ a.answer _ c.reply_for-e.ensures (ap (λ (q : Numbers). q.key) c.asked-q.ensures) c.meaning.ensures in
-    c.settle.ensures W (map (λ x. x.now) a.keys.now) j a.answer p.1 (told ∙ c.if-e-ne0.false) (sym c.place-place.ensures ∙ c.if-place-eq0.true)
+    c.settle.ensures W _ j c.args.answer c.requires.1
+    (told (goal.at.returns-then-place-eq0 c).After-reply_for-e W j ∙ sym c.number.ensures ∙ c.if-number-ne0.false)
+    (sym c.place-place.ensures ∙ c.if-place-eq0.true)
 
 pub returns : goal.returns
 returns c W j =
-    let a = c.args in
-    let s = a.s in
-    let p = c.requires in
-    let told : W.reply (key_at s) (what_at s) a.answer ≡ c.reply_for-e.result = j.reply (key_at s) (what_at s) a.answer ∙ replied (readings_in a.table.now (map (λ x. x.now) a.issuers.now) a.end.now a.anchors) (map (λ x. x.now) a.issuers.now) a.end.now (map (λ x. x.now) a.keys.now) a.anchors _ _ _ a.answer _ c.reply_for-e.ensures (ap (λ (q : Numbers). q.key) c.asked-q.ensures) c.meaning.ensures in
-    c.ask_next.ensures W a.answer j.after p.1 (told ∙ c.if-e-ne0.false)
+    c.ask_next.ensures W c.args.answer j.after c.requires.1 (told (goal.at.returns c).After-reply_for-e W j ∙ sym c.number.ensures ∙ c.if-number-ne0.false)

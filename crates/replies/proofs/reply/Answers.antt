@@ -4,13 +4,7 @@ use native.Mathlib.Omega.{arith}
 use Rattle.replies.proofs.reply.Goals as goal
 
 pub returns-then-s-gt-MOST_INTERMEDIATES : goal.returns-then-s-gt-MOST_INTERMEDIATES
-returns-then-s-gt-MOST_INTERMEDIATES c d h W j = absurd (omega (arith, d, c.if-s-gt-MOST_INTERMEDIATES.true))
-
-pub on_answer-requires : goal.on_answer-requires
-on_answer-requires c = (omega (arith, c.if-s-gt-MOST_INTERMEDIATES.false), c.in-Ask.is)
-
-pub on_word-requires : goal.on_word-requires
-on_word-requires c = (omega (arith, c.if-s-gt-MOST_INTERMEDIATES.false), c.in-Offer.is)
+returns-then-s-gt-MOST_INTERMEDIATES c d h W j = absurd (omega arith)
 
 pub returns-in-Ask : goal.returns-in-Ask
 returns-in-Ask c d h W j = c.on_answer.ensures W j

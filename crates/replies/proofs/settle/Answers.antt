@@ -2,44 +2,52 @@
 use Rattle.machine.proofs.Lent.{spent_out, spent_fits, spent_left, spent_refusal}
 use Rattle.machine.proofs.Moves.{names_out, names_refused, names_clear, bare_clear}
 use Rattle.machine.proofs.Names.{never_spent}
-use Rattle.machine.specs.World.{names_in}
+use Rattle.machine.specs.World.{names_by}
 use Rattle.machine.specs.Machine.{here}
-use Rattle.lent.specs.Lent.{readings_in}
-use mathlib.Core.List.{map}
+use Rattle.entries.specs.Tally.{spend}
+use Rattle.entries.proofs.Leaving.{passed, refused, refused_by}
+use mathlib.Core.Bool.{Bool, true, false}
 use native.Mathlib.Omega.{arith}
-use mathlib.Core.Path.{◌∙◌}
+use borrow.Author.Tests.{eqb-true, eq-eqb}
+use mathlib.Core.Path.{◌≡◌, refl, sym, ◌∙◌}
 use Rattle.replies.proofs.settle.Goals as goal
 
-pub returns-then-e-eq-MAXIMUM_NAME_CONSTRAINT_COMPARISONS_EXCEEDED : goal.returns-then-e-eq-MAXIMUM_NAME_CONSTRAINT_COMPARISONS_EXCEEDED
-returns-then-e-eq-MAXIMUM_NAME_CONSTRAINT_COMPARISONS_EXCEEDED c W K j g asks holds last =
-    let a = c.args in
-    let s = a.s in
-    let T = names_in (readings_in a.table.now (map (λ x. x.now) a.issuers.now) a.end.now a.anchors) (map (λ x. x.now) a.issuers.now) a.end.now a.anchors (map (λ x. x.now) a.constraints.now) a.bound.now s.anchor (here s) in
-    let x = c.names-x.result in
-    let e = c.names-x.ensures in
-    let n = never_spent (readings_in a.table.now (map (λ x. x.now) a.issuers.now) a.end.now a.anchors) (map (λ x. x.now) a.issuers.now) a.end.now a.anchors (map (λ x. x.now) a.constraints.now) a.bound.now s.anchor (here s) in
-    names_out W s c.requires asks g holds (bare_clear W j.after s last) x.left (omega (arith, spent_out s.comparisons T x e n c.if-e-eq-MAXIMUM_NAME_CONSTRAINT_COMPARISONS_EXCEEDED.true, j.cost s.anchor (here s)))
+true_not_false : ◌≡◌ {A = Bool} true false → ⊥
+true_not_false e = cc
 
-pub returns-then-e-eq0 : goal.returns-then-e-eq0
-returns-then-e-eq0 c W K j g asks holds last =
-    let a = c.args in
-    let s = a.s in
-    let T = names_in (readings_in a.table.now (map (λ x. x.now) a.issuers.now) a.end.now a.anchors) (map (λ x. x.now) a.issuers.now) a.end.now a.anchors (map (λ x. x.now) a.constraints.now) a.bound.now s.anchor (here s) in
-    let x = c.names-x.result in
-    let e = c.names-x.ensures in
-    let n = c.if-e-eq-MAXIMUM_NAME_CONSTRAINT_COMPARISONS_EXCEEDED.false in
-    let q = j.cost s.anchor (here s) in
-    names_clear W s c.requires asks g holds (bare_clear W j.after s last) x.left (omega (arith, spent_left s.comparisons T x e n, q)) (omega (arith, spent_fits s.comparisons T x e n, q))
-    (j.named s.anchor (here s) ∙ spent_refusal s.comparisons T x e n ∙ c.if-e-eq0.true)
+pub returns-in-Ok : goal.returns-in-Ok
+returns-in-Ok c W K j g asks holds last =
+    let s = c.args.s in
+    let t = names_by c.args.lent.now c.args.anchors.now s.anchor (here s) in
+    let l = c.in-Ok.ensures in
+    let p : (spend s.comparisons t).refusal ≡ 0 = passed l in
+    let n : (spend s.comparisons t).refusal ≡ 71 → ⊥ = λ h. omega arith in
+    let cost = j.cost s.anchor (here s) in
+    let left = spent_left s.comparisons t _ refl n in
+    let fits = spent_fits s.comparisons t _ refl n in
+    names_clear W s c.requires asks g holds (bare_clear W j.after s last) c.names.new.left (omega arith) (omega arith)
+    (j.named s.anchor (here s) ∙ spent_refusal s.comparisons t _ refl n ∙ p)
 
-pub returns : goal.returns
-returns c W K j g asks holds last =
-    let a = c.args in
-    let s = a.s in
-    let T = names_in (readings_in a.table.now (map (λ x. x.now) a.issuers.now) a.end.now a.anchors) (map (λ x. x.now) a.issuers.now) a.end.now a.anchors (map (λ x. x.now) a.constraints.now) a.bound.now s.anchor (here s) in
-    let x = c.names-x.result in
-    let e = c.names-x.ensures in
-    let n = c.if-e-eq-MAXIMUM_NAME_CONSTRAINT_COMPARISONS_EXCEEDED.false in
-    let q = j.cost s.anchor (here s) in
-    names_refused W s c.requires asks g holds (bare_clear W j.after s last) x.left (omega (arith, spent_left s.comparisons T x e n, q)) (omega (arith, spent_fits s.comparisons T x e n, q)) x.refusal c.worse-b.result
-    (j.named s.anchor (here s) ∙ spent_refusal s.comparisons T x e n) c.if-e-eq0.false c.worse-b.ensures
+pub returns-in-Err : goal.returns-in-Err
+returns-in-Err c W K j g asks holds last =
+    let s = c.args.s in
+    let t = names_by c.args.lent.now c.args.anchors.now s.anchor (here s) in
+    let cost = j.cost s.anchor (here s) in
+    let is : c.in-Err.e ≡ 71 = eqb-true _ _ (sym c.eq.ensures ∙ c.if-eq.true) in
+    let l = c.in-Err.ensures in
+    let out = spent_out s.comparisons t _ refl (never_spent _ _ _ _ _ _ s.anchor (here s)) (refused_by l ∙ is) in
+    rw is (names_out W s c.requires asks g holds (bare_clear W j.after s last) c.names.new.left (omega arith))
+
+pub returns-in-Err-2 : goal.returns-in-Err-2
+returns-in-Err-2 c W K j g asks holds last =
+    let s = c.args.s in
+    let t = names_by c.args.lent.now c.args.anchors.now s.anchor (here s) in
+    let l = c.in-Err.ensures in
+    let p = refused_by l in
+    let n : (spend s.comparisons t).refusal ≡ 71 → ⊥ = λ h. true_not_false (sym (eq-eqb _ _ (sym p ∙ h)) ∙ sym c.eq.ensures ∙ c.if-eq.false) in
+    let cost = j.cost s.anchor (here s) in
+    let left = spent_left s.comparisons t _ refl n in
+    let fits = spent_fits s.comparisons t _ refl n in
+    rw c.refuse.ensures
+    (names_refused W s c.requires asks g holds (bare_clear W j.after s last) c.names.new.left (omega arith) (omega arith) _ _
+    (j.named s.anchor (here s) ∙ spent_refusal s.comparisons t _ refl n ∙ p) (λ h. refused l (p ∙ h)) refl)

@@ -5,32 +5,14 @@ use Rattle.lent.proofs.Laws.{path_start, path_turn, path_found, path_end}
 use Rattle.machine.specs.World.{constrained_as}
 use Rattle.replies.proofs.some_constrained.Goals as goal
 
-pub overflow_add-k : goal.overflow_add-k
-overflow_add-k c = omega arith
-
 pub loop-k-init : goal.loop-k-init
 loop-k-init c = path_start _ _ _
 
-pub overflow_sub-k : goal.overflow_sub-k
-overflow_sub-k c = omega arith
-
-pub number_at-n-requires : goal.number_at-n-requires
-number_at-n-requires c = tt
-
-pub outline-outline-requires : goal.outline-outline-requires
-outline-outline-requires c = tt
-
-pub is_constrained-requires : goal.is_constrained-requires
-is_constrained-requires c = tt
-
 pub returns-then-is_constrained : goal.returns-then-is_constrained
-returns-then-is_constrained c = path_found _ _ _ _ (omega arith) c.number_at-n.ensures (sym (ap constrained_as c.outline-outline.ensures) ∙ sym c.is_constrained.ensures ∙ c.if-is_constrained.true) c.loop-k.invariant
-
-pub loop-k-smaller : goal.loop-k-smaller
-loop-k-smaller c = omega arith
+returns-then-is_constrained c = path_found _ _ _ _ (omega arith) c.number_at-n.ensures (sym (ap constrained_as c.outline.ensures) ∙ sym c.is_constrained.ensures ∙ c.if-is_constrained.true) c.loop-k.invariant
 
 pub loop-k-preserved : goal.loop-k-preserved
-loop-k-preserved c = path_turn _ _ _ _ (omega arith) c.number_at-n.ensures (sym (ap constrained_as c.outline-outline.ensures) ∙ sym c.is_constrained.ensures ∙ c.if-is_constrained.false) c.loop-k.invariant
+loop-k-preserved c = path_turn _ _ _ _ (omega arith) c.number_at-n.ensures (sym (ap constrained_as c.outline.ensures) ∙ sym c.is_constrained.ensures ∙ c.if-is_constrained.false) c.loop-k.invariant
 
 pub returns : goal.returns
 returns c = path_end _ _ _ _ (omega arith) c.loop-k.invariant

@@ -9,6 +9,6 @@ use Rattle.rows.proofs.refused.Goals as goal
 pub returns : goal.returns
 unfolding row_reading
 returns c =
-    let e = c.args.e in
-    let z : e + 1 - 1 ≡ e = omega arith in
-    rw (ne_eqb (e + 1) 0 (λ q. omega arith), z, le-ltb 65535 e (search rules))
+    let n = c.number.result in
+    let z : n + 1 - 1 ≡ n = omega arith in
+    rw (ne_eqb (n + 1) 0 (λ q. omega arith), z, le-ltb 65535 n (search rules), c.number.ensures)

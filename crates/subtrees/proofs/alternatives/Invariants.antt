@@ -8,7 +8,7 @@ use Rattle.subtrees.proofs.alternatives.Given as goal
 
 abbrev pub invariant-loop-at : goal.invariant-loop-at
 invariant-loop-at l =
-    Paying l.to (λ a u. clean) (λ a u. next_name l.s l.lists l.t (general_name l.t a l.to)) (spend l.left (alternatives l.s l.lists l.t l.from l.to)) l.rest l.at tt
+    Paying l.to (λ a u. clean) (λ a u. next_name l.s l.lists l.t (general_name l.t a l.to)) (spend l.initial.left (alternatives l.s l.lists l.t l.from l.to)) l.left l.at tt
 
 abbrev pub decreases-loop-at : goal.decreases-loop-at
 decreases-loop-at l = l.to - l.at

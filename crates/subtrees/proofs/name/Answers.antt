@@ -1,13 +1,13 @@
 -- `subtrees::name` meets its contract. Assumes nothing.
-use mathlib.Core.Path.{◌∙◌}
-use Rattle.entries.proofs.Spending.{refused_first, passed_first}
+use Rattle.der.proofs.Laws.{handed_on}
+use Rattle.entries.proofs.Leaving.{first_refused, first_passed}
 use Rattle.subtrees.specs.Model.{name}
 use Rattle.subtrees.proofs.name.Goals as goal
 
-pub returns-then-first-ne0 : goal.returns-then-first-ne0
+pub returns-in_err-all : goal.returns-in_err-all
 unfolding name
-returns-then-first-ne0 c = refused_first _ _ _ _ c.all-first.ensures c.if-first-ne0.true
+returns-in_err-all c = rw (handed_on _ c.from_residual.ensures) (first_refused _ c.in_err-all.ensures)
 
 pub returns : goal.returns
 unfolding name
-returns c = c.all.ensures ∙ passed_first _ _ _ _ c.all-first.ensures c.if-first-ne0.false
+returns c = first_passed c.in_ok-all.ensures c.all-2.ensures

@@ -1,16 +1,17 @@
 -- `subtrees::subtrees_at` meets its contract. Assumes nothing.
+use Rattle.std.proofs.Common.{rules}
 use Rattle.der.specs.Model.{on_content}
 use Rattle.subtrees.specs.Model.{subtrees_at}
 use Rattle.subtrees.proofs.subtrees_at.Goals as goal
 
-pub returns-in-Refused : goal.returns-in-Refused
+pub returns-in_err-permitted : goal.returns-in_err-permitted
 unfolding subtrees_at on_content
-returns-in-Refused c = search (← c.list_at.ensures, c.in-Refused.is)
+returns-in_err-permitted c = search rules
 
-pub returns-in-Content-list_at : goal.returns-in-Content-list_at
+pub returns-in_err-excluded : goal.returns-in_err-excluded
 unfolding subtrees_at on_content
-returns-in-Content-list_at c = search (← c.list_at.ensures, c.in-Content.is, ← c.list_at-2.ensures, c.in-Content-list_at.is)
+returns-in_err-excluded c = search rules
 
-pub returns-in-Refused-list_at : goal.returns-in-Refused-list_at
+pub returns : goal.returns
 unfolding subtrees_at on_content
-returns-in-Refused-list_at c = search (← c.list_at.ensures, c.in-Content.is, ← c.list_at-2.ensures, c.in-Refused-list_at.is)
+returns c = search rules

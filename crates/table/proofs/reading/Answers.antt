@@ -5,9 +5,6 @@ use Rattle.rows.specs.Model.{row_reading}
 use Rattle.table.specs.Model.{reading_in}
 use Rattle.table.proofs.reading.Goals as goal
 
-pub read-requires : goal.read-requires
-read-requires c = tt
-
 pub returns-then-table-i : goal.returns-then-table-i
 unfolding reading_in
 returns-then-table-i c = let a = c.args in rw (le-leb (length a.table.now) a.i (omega arith)) c.read.ensures
@@ -22,4 +19,4 @@ returns-then-mark-gt65535 c = let a = c.args in rw (lt-leb (length a.table.now) 
 
 pub returns : goal.returns
 unfolding reading_in row_reading
-returns c = let a = c.args in rw (lt-leb (length a.table.now) a.i (omega arith), ne_eqb _ _ c.if-mark-eq0.false, le-ltb _ _ c.if-mark-gt65535.false)
+returns c = let a = c.args in rw (lt-leb (length a.table.now) a.i (omega arith), ne_eqb _ _ c.if-mark-eq0.false, le-ltb _ _ c.if-mark-gt65535.false, c.from.ensures)

@@ -2,8 +2,8 @@
 use Rattle.machine.proofs.Moves.{try_out, try_asks}
 use Rattle.taken.proofs.anchor.Goals as goal
 
-pub returns-then-signatures-eq0 : goal.returns-then-signatures-eq0
-returns-then-signatures-eq0 c deep W = try_out W c.args.s deep c.args.i c.if-signatures-eq0.true
+pub returns-then-s-eq0 : goal.returns-then-s-eq0
+returns-then-s-eq0 c deep W = try_out W c.args.s deep c.args.i c.if-s-eq0.true
 
 pub returns : goal.returns
-returns c deep W = try_asks W c.args.s deep c.args.i c.if-signatures-eq0.false
+returns c deep W = try_asks W c.args.s deep c.args.i c.if-s-eq0.false

@@ -1,34 +1,31 @@
 -- `taken::extend` meets its contract. Assumes nothing.
+use Rattle.refusal.proofs.Laws.{outcome_ok, outcome_err}
 use Rattle.machine.proofs.Moves.{extend_out, extend_deep, extend_refused, extend_goes}
-use Rattle.machine.proofs.Lent.{checks_push}
+use Rattle.machine.proofs.Lent.{outcome_not, checks_push}
 use lib.ListN.{length}
-use Rattle.lent.specs.Lent.{readings_in}
-use mathlib.Core.List.{map}
 use native.Mathlib.Omega.{arith}
-use mathlib.Core.Path.{◌≡◌, ◌∙◌}
+use mathlib.Core.Path.{◌≡◌, sym, ◌∙◌}
 use borrow.Author.Rules.{rules}
 use Rattle.taken.proofs.extend.Goals as goal
 
-pub returns-then-extensions-eq0 : goal.returns-then-extensions-eq0
-returns-then-extensions-eq0 c deep walks W h = extend_out W c.args.s deep c.args.i walks c.if-extensions-eq0.true
+pub returns-then-s-eq0 : goal.returns-then-s-eq0
+returns-then-s-eq0 c deep walks W h = extend_out W c.args.s deep c.args.i walks c.if-s-eq0.true
 
-pub returns-then-depth-ge-MOST_INTERMEDIATES : goal.returns-then-depth-ge-MOST_INTERMEDIATES
-returns-then-depth-ge-MOST_INTERMEDIATES c deep walks W h = extend_deep W c.args.s deep c.args.i walks c.if-extensions-eq0.false c.worse-b.result c.worse-b.ensures (omega (arith, deep, c.if-depth-ge-MOST_INTERMEDIATES.true))
+pub returns-then-s-ge-MOST_INTERMEDIATES : goal.returns-then-s-ge-MOST_INTERMEDIATES
+returns-then-s-ge-MOST_INTERMEDIATES c deep walks W h = extend_deep W c.args.s deep c.args.i walks c.if-s-eq0.false _ c.worse.ensures (omega arith)
 
-pub returns-then-e-ne0 : goal.returns-then-e-ne0
-returns-then-e-ne0 c deep walks W h =
-    let a = c.args in
-    let long_path : length c.args.s.path ≡ 7 = search rules in
-    let room = c.if-depth-ge-MOST_INTERMEDIATES.false in
-    extend_refused W a.s deep a.i walks c.if-extensions-eq0.false c.check-e.result c.worse-b-then-e-ne0.result c.worse-b-then-e-ne0.ensures (λ q. omega (arith, room, q))
-    (checks_push W (readings_in a.table.now (map (λ x. x.now) a.issuers.now) a.end.now a.anchors) (map (λ x. x.now) a.issuers.now) a.end.now a.anchors (map (λ x. x.now) a.distrusted.now) a.time a.wanted.now a.demanded h a.s.path a.s.depth a.i c.check-e.result (omega (arith, long_path, room)) c.check-e.ensures)
-    c.if-e-ne0.true
+pub returns-in-Err : goal.returns-in-Err
+returns-in-Err c deep walks W h =
+    let s = c.args.s in
+    let long_path : length s.path ≡ 7 = search rules in
+    let failed = sym c.check.ensures ∙ c.in-Err.is in
+    extend_refused W s deep c.args.i walks c.if-s-eq0.false c.in-Err.e _ c.worse-in-Err.ensures (λ q. omega arith)
+    (checks_push W _ _ _ _ _ _ _ _ h s.path s.depth c.args.i _ (omega arith) (sym (outcome_err _ _ failed)))
+    (outcome_not _ _ failed)
 
 pub returns : goal.returns
 returns c deep walks W h =
-    let a = c.args in
-    let long_path : length c.args.s.path ≡ 7 = search rules in
-    let room = c.if-depth-ge-MOST_INTERMEDIATES.false in
-    extend_goes W a.s deep a.i walks c.if-extensions-eq0.false long_path (search rules) (λ q. omega (arith, room, q))
-    (checks_push W (readings_in a.table.now (map (λ x. x.now) a.issuers.now) a.end.now a.anchors) (map (λ x. x.now) a.issuers.now) a.end.now a.anchors (map (λ x. x.now) a.distrusted.now) a.time a.wanted.now a.demanded h a.s.path a.s.depth a.i c.check-e.result (omega (arith, long_path, room)) c.check-e.ensures
-    ∙ c.if-e-ne0.false)
+    let s = c.args.s in
+    let long_path : length s.path ≡ 7 = search rules in
+    extend_goes W s deep c.args.i walks c.if-s-eq0.false long_path (search rules) (λ q. omega arith)
+    (checks_push W _ _ _ _ _ _ _ _ h s.path s.depth c.args.i _ (omega arith) (sym (outcome_ok _ (sym c.check.ensures ∙ c.in_default.is))))

@@ -1,18 +1,18 @@
 -- `told::anchor` meets its contract. Assumes nothing.
+use mathlib.Core.Path.{◌≡◌, refl}
+use mathlib.Core.Bool.{Bool, true, false, cond}
+use Rattle.std.specs.Int.{from_bool}
 use Rattle.told.specs.Model.{trusted_of}
-use Rattle.der.proofs.Laws.{tests}
 use Rattle.told.proofs.anchor.Goals as goal
 
-pub anchor-requires : goal.anchor-requires
-anchor-requires c = tt
+as_byte : (b : Bool) → from_bool b ≡ cond b 1 0
+as_byte true = refl
+as_byte false = refl
 
-pub flag-requires : goal.flag-requires
-flag-requires c = tt
-
-pub returns-in-Anchor : goal.returns-in-Anchor
+pub returns-in-Ok : goal.returns-in-Ok
 unfolding trusted_of
-returns-in-Anchor c = search (tests, ← c.anchor.ensures, c.in-Anchor.is, c.flag.ensures)
+returns-in-Ok c = rw (← c.in-Ok.ensures, c.from.ensures, as_byte c.in-Ok.anchor.constraints.known)
 
-pub returns-in-Refused : goal.returns-in-Refused
+pub returns-in-Err : goal.returns-in-Err
 unfolding trusted_of
-returns-in-Refused c = search (tests, ← c.anchor.ensures, c.in-Refused.is)
+returns-in-Err c = rw (← c.in-Err.ensures, c.number.ensures)

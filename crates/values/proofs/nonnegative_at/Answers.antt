@@ -1,18 +1,14 @@
+use mathlib.Core.Path.{◌∙◌}
+use Rattle.der.proofs.Laws.{handed_on}
 use Rattle.der.specs.Model.{on_content}
 use Rattle.values.specs.Model.{nonnegative}
 use Rattle.values.proofs.nonnegative_at.Goals as goal
 
-pub expect-requires : goal.expect-requires
-expect-requires c = tt
-
-pub positive_in-requires : goal.positive_in-requires
-positive_in-requires c = tt
-
-pub returns-in-Content : goal.returns-in-Content
+pub returns-in_err-content : goal.returns-in_err-content
 unfolding nonnegative on_content
-returns-in-Content c =
-    search (← c.expect.ensures, c.in-Content.is, c.positive_in.ensures)
+returns-in_err-content c =
+    handed_on _ c.from_residual.ensures ∙ search (← c.expect.ensures, c.in_err-content.was)
 
-pub returns-in-Refused : goal.returns-in-Refused
+pub returns : goal.returns
 unfolding nonnegative on_content
-returns-in-Refused c = search (← c.expect.ensures, c.in-Refused.is)
+returns c = search (← c.expect.ensures, c.in_ok-content.was, c.positive_in.ensures)

@@ -1,11 +1,12 @@
+use native.Mathlib.Omega.{arith}
 use Rattle.der.proofs.Laws.{tests}
 use Rattle.values.specs.Model.{only_byte}
 use Rattle.values.proofs.only_byte.Goals as goal
 
-pub returns-then-to-from-eq1 : goal.returns-then-to-from-eq1
+pub returns-then-to-from-ne1 : goal.returns-then-to-from-ne1
 unfolding only_byte
-returns-then-to-from-eq1 c = search tests
+returns-then-to-from-ne1 c = grind (arith, tests)
 
 pub returns : goal.returns
 unfolding only_byte
-returns c = search tests
+returns c = grind (arith, tests)

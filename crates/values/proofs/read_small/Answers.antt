@@ -1,18 +1,14 @@
+use mathlib.Core.Path.{◌∙◌}
+use Rattle.der.proofs.Laws.{handed_on}
 use Rattle.der.specs.Model.{on_content}
 use Rattle.values.specs.Model.{read_small}
 use Rattle.values.proofs.read_small.Goals as goal
 
-pub nonnegative_at-requires : goal.nonnegative_at-requires
-nonnegative_at-requires c = tt
-
-pub small_in-requires : goal.small_in-requires
-small_in-requires c = tt
-
-pub returns-in-Content : goal.returns-in-Content
+pub returns-in_err-digits : goal.returns-in_err-digits
 unfolding read_small on_content
-returns-in-Content c =
-    search (← c.nonnegative_at.ensures, c.in-Content.is, c.small_in.ensures)
+returns-in_err-digits c =
+    handed_on _ c.from_residual.ensures ∙ search (← c.nonnegative_at.ensures, c.in_err-digits.was)
 
-pub returns-in-Refused : goal.returns-in-Refused
+pub returns : goal.returns
 unfolding read_small on_content
-returns-in-Refused c = search (← c.nonnegative_at.ensures, c.in-Refused.is)
+returns c = search (← c.nonnegative_at.ensures, c.in_ok-digits.was, c.small_in.ensures)

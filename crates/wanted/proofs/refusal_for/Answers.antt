@@ -1,16 +1,23 @@
 -- `wanted::refusal_for` meets its contract. Assumes nothing.
-use Rattle.wanted.specs.Model.{name_by}
+use mathlib.Core.Path.{◌≡◌, sym, ◌∙◌}
+use native.Mathlib.Omega.{arith}
+use Rattle.std.proofs.Common.{rules}
+use Rattle.refusal.specs.Model.{outcome}
+use Rattle.refusal.proofs.Laws.{outcome_some}
 use Rattle.path.specs.Model.{on_reading}
-use Rattle.der.proofs.Laws.{tests}
+use Rattle.wanted.specs.Model.{name_by}
 use Rattle.wanted.proofs.refusal_for.Goals as goal
 
-pub refusal_from-requires : goal.refusal_from-requires
-refusal_from-requires c = tt
-
-pub returns-in-Accepted : goal.returns-in-Accepted
+pub returns-in-Ok : goal.returns-in-Ok
 unfolding name_by on_reading
-returns-in-Accepted c = search (tests, c.in-Accepted.is, c.refusal_from.ensures)
+returns-in-Ok c = search rules
 
-pub returns-in-Refused : goal.returns-in-Refused
+pub returns-in-Err : goal.returns-in-Err
+unfolding name_by on_reading outcome
+returns-in-Err c = let z : c.in-Err.e ≡ 0 = sym c.number.ensures ∙ c.if-number-eq0.true in rw (c.in-Err.is, z)
+
+pub returns-in-Err-2 : goal.returns-in-Err-2
 unfolding name_by on_reading
-returns-in-Refused c = search (tests, c.in-Refused.is)
+returns-in-Err-2 c =
+    let same : c.in-Err.e ≡ c.in-Err-2.e = cc in
+    rw (c.in-Err-2.is, outcome_some c.in-Err-2.e (omega (arith, same)))

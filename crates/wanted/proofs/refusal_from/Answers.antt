@@ -1,32 +1,23 @@
 -- `wanted::refusal_from` meets its contract. Assumes nothing.
+use mathlib.Core.Path.{◌∙◌}
+use Rattle.std.proofs.Common.{rules}
+use Rattle.refusal.specs.Model.{outcome}
 use Rattle.conditions.specs.Model.{name_in}
-use Rattle.der.proofs.Laws.{tests}
+use Rattle.wanted.proofs.Names.{dns_kept, ip_kept}
 use Rattle.wanted.proofs.refusal_from.Goals as goal
 
-pub returns-then-kind-eq-NONE : goal.returns-then-kind-eq-NONE
+pub returns-in-0 : goal.returns-in-0
+unfolding name_in outcome
+returns-in-0 c = search rules
+
+pub returns-in-1 : goal.returns-in-1
 unfolding name_in
-returns-then-kind-eq-NONE c = search tests
+returns-in-1 c = rw c.in-1.is (c.good_for_dns.ensures ∙ dns_kept _ _ _ _)
 
-pub good_for_dns-requires : goal.good_for_dns-requires
-good_for_dns-requires c = tt
-
-pub refusal_in-requires : goal.refusal_in-requires
-refusal_in-requires c = tt
-
-pub returns-then-kind-eq-DNS : goal.returns-then-kind-eq-DNS
+pub returns-in-2 : goal.returns-in-2
 unfolding name_in
-returns-then-kind-eq-DNS c = search (tests, ← c.good_for_dns.ensures, ← c.refusal_in.ensures)
+returns-in-2 c = rw c.in-2.is (c.good_for_ip.ensures ∙ ip_kept _ _ _ _)
 
-pub good_for_ip-requires : goal.good_for_ip-requires
-good_for_ip-requires c = tt
-
-pub refusal_in-requires-then-kind-eq-IP : goal.refusal_in-requires-then-kind-eq-IP
-refusal_in-requires-then-kind-eq-IP c = tt
-
-pub returns-then-kind-eq-IP : goal.returns-then-kind-eq-IP
-unfolding name_in
-returns-then-kind-eq-IP c = search (tests, ← c.good_for_ip.ensures, ← c.refusal_in-then-kind-eq-IP.ensures)
-
-pub returns : goal.returns
-unfolding name_in
-returns c = search tests
+pub returns-in_default : goal.returns-in_default
+unfolding name_in outcome
+returns-in_default c = search rules

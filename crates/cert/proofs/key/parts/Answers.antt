@@ -1,47 +1,20 @@
-use borrow.Author.Tests.{eq-eqb, ne_eqb}
+use Rattle.std.proofs.Common.{rules}
 use Rattle.der.specs.Model.{on_content}
 use Rattle.cert.specs.Model.{key_parts}
 use Rattle.cert.proofs.key.parts.Goals as goal
 
-pub expect-requires : goal.expect-requires
-expect-requires c = tt
-
-pub returns-in-Refused : goal.returns-in-Refused
+pub returns-in_err-algorithm : goal.returns-in_err-algorithm
 unfolding key_parts on_content
-returns-in-Refused c =
-    rw (← c.expect.ensures, c.in-Refused.is)
+returns-in_err-algorithm c = search rules
 
-pub bits_at-requires : goal.bits_at-requires
-bits_at-requires c = tt
-
-pub returns-in-Refused-bits_at : goal.returns-in-Refused-bits_at
+pub returns-in_err-bits : goal.returns-in_err-bits
 unfolding key_parts on_content
-returns-in-Refused-bits_at c =
-    rw (
-      ← c.expect.ensures,
-      c.in-Content.is,
-      ← c.bits_at.ensures,
-      c.in-Refused-bits_at.is,
-    )
+returns-in_err-bits c = search rules
 
 pub returns-then-bits-to : goal.returns-then-bits-to
 unfolding key_parts on_content
-returns-then-bits-to c =
-    rw (
-      ← c.expect.ensures,
-      c.in-Content.is,
-      ← c.bits_at.ensures,
-      c.in-Content-bits_at.is,
-      eq-eqb _ _ c.if-bits-to.true,
-    )
+returns-then-bits-to c = search rules
 
 pub returns-else-bits-to : goal.returns-else-bits-to
 unfolding key_parts on_content
-returns-else-bits-to c =
-    rw (
-      ← c.expect.ensures,
-      c.in-Content.is,
-      ← c.bits_at.ensures,
-      c.in-Content-bits_at.is,
-      ne_eqb _ _ c.if-bits-to.false,
-    )
+returns-else-bits-to c = search rules

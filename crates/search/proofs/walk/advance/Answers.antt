@@ -1,21 +1,15 @@
 -- `search::walk::advance` meets its contract. Assumes nothing.
 use Rattle.dialogue.specs.Dialogue.{follow}
-use Rattle.machine.specs.World.{world_in}
+use Rattle.machine.specs.World.{world_by}
 use Rattle.machine.specs.Machine.{Ran, move}
-use mathlib.Core.Path.{subst}
+use mathlib.Core.Path.{refl, sym, subst, ◌∙◌}
 use Prim.Native.Nat.{ℕ, suc}
-use Rattle.lent.specs.Lent.{readings_in}
-use lib.ListN.{length}
-use mathlib.Core.List.{List, map, append-nil}
+use mathlib.Core.List.{List, append-nil}
 use native.Mathlib.Omega.{arith}
-use mathlib.Core.Path.{refl, sym, ◌∙◌}
 use Rattle.search.proofs.walk.advance.Goals as goal
 
 pub loop-t-init : goal.loop-t-init
 loop-t-init c = (c.requires, record { same = refl; most = omega arith; ran = λ s₀ said n h. (n, h) })
-
-pub move_on-t-requires : goal.move_on-t-requires
-move_on-t-requires c = (c.loop-t.invariant.0, c.in-Walk.is)
 
 pub loop-t-smaller : goal.loop-t-smaller
 loop-t-smaller c = c.move_on-t.ensures.less
@@ -32,16 +26,14 @@ loop-t-preserved c =
       },
     )
 
-pub returns-in_default : goal.returns-in_default
+pub returns : goal.returns
 unfolding follow
-returns-in_default c =
+returns c =
     let i = c.loop-t.invariant in
-    let a = c.args in
-    let W = world_in (readings_in a.table.now (map (λ x. x.now) a.issuers.now) a.end.now (length a.subjects.now)) (map (λ x. x.now) a.issuers.now) a.end.now (map (λ x. x.now) a.subjects.now) (map (λ x. x.now) a.keys.now) (map (λ x. x.now) a.constraints.now) a.bound.now (map (λ x. x.now) a.distrusted.now) a.time a.wanted.now a.demanded in
     record {
       same = i.1.same;
       deep = i.0;
       most = i.1.most;
       halts = c.in_default.not-Walk;
-      ran = λ s₀ said n h. let k = i.1.ran s₀ said n h in (k.0, subst (λ (l : List ℕ). Ran W s₀ c.loop-t.t l k.0) (sym (append-nil said)) k.1);
+      ran = λ s₀ said n h. let k = i.1.ran s₀ said n h in (k.0, subst (λ (l : List ℕ). Ran (world_by c.args.request.now) s₀ c.loop-t.t l k.0) (sym (append-nil said)) k.1);
     }

@@ -155,7 +155,7 @@ fn on_answer(lent: &Lent, anchors: &Anchors, s: State, answer: u16) -> State
         → JudgesBy W lent.now (each_now anchors.now.keys.now) anchors.now
         → Heard W s result (give (tree_of W s) answer) (effort W s) }
 {
-    // It is copied through a reference: of a state that holds a refusal no other copies are proved yet.
+    // The check covers one copy of a state by value in a function; through a reference it covers each.
     let s = &s;
     let key = machine::asked(*s).key;
     let e = asked::reply_for(lent, anchors.keys, key, meaning(answer));

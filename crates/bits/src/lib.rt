@@ -8,6 +8,7 @@ use der::Span;
 use refusal::Refusal;
 
 // The octets of a BIT STRING's content, none of whose bits is unused.
+#[inline(always)]
 fn whole_octets(s: &[u8], from: usize, to: usize) -> Result<Span, Refusal>
     ensures { result ≡ whole_octets s.now from to }
 {
@@ -21,6 +22,7 @@ fn whole_octets(s: &[u8], from: usize, to: usize) -> Result<Span, Refusal>
 }
 
 // The BIT STRING at `from`, none of whose bits is unused: where its octets stand.
+#[inline(always)]
 pub fn bits_at(s: &[u8], from: usize, to: usize) -> Result<Span, Refusal>
     ensures { result ≡ bits_at s.now from to }
 {

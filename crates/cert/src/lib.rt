@@ -46,6 +46,7 @@ struct Fields {
 }
 
 // Issuer, validity, subject and subject's key, none of them opened: RFC 5280, 4.1.2.4 to 4.1.2.7.
+#[inline(always)]
 fn fields_at(s: &[u8], from: usize, to: usize) -> Result<Fields, Refusal>
     ensures { result ≡ fields_at s.now from to }
 {
@@ -61,6 +62,7 @@ fn fields_at(s: &[u8], from: usize, to: usize) -> Result<Fields, Refusal>
     })
 }
 
+#[inline(always)]
 fn whole(envelope: Envelope, beginning: Beginning, fields: Fields, known: Known) -> Certificate
     ensures { result ≡ whole_of envelope beginning fields known }
 {
@@ -86,8 +88,10 @@ pub fn read(s: &[u8], strict: bool) -> Reading
     let content = envelope.content;
     let beginning = envelope::begin(s, content.start, content.end, envelope.algorithm)?;
     let fields = fields_at(s, beginning.algorithm.end, content.end)?;
-    let known = extensions::all_at(s, fields.key.end, content.end, strict)?;
-    Ok(whole(envelope, beginning, fields, known))
+    match extensions::all_at(s, fields.key.end, content.end, strict) {
+        Ok(known) => Ok(whole(envelope, beginning, fields, known)),
+        Err(e) => Err(e),
+    }
 }
 
 // Subject, key and name constraints of a certificate that is trusted. Versions before v3 are not read.

@@ -67,7 +67,8 @@ fn show(to: &mut impl Write, s: &[u8]) -> io::Result<()> {
 
 fn show_all(to: &mut impl Write, text: &[u8], out: &mut [u8]) -> io::Result<()> {
     for line in text.split_inclusive(|b| *b == b'\n') {
-        let count = hexlines::bytes(line, 0, hexlines::line_end(line, 0), out);
+        let line = line.strip_suffix(b"\n").unwrap_or(line);
+        let count = hexlines::bytes(line, 0, line.len(), out);
         show(to, &out[..count])?;
     }
     Ok(())

@@ -12,7 +12,7 @@ pub const LIMIT: usize = 65535;
 
 // A length, and the place after it.
 #[derive(Clone, Copy)]
-struct Length {
+pub struct Length {
     len: usize,
     next: usize,
 }
@@ -32,6 +32,7 @@ pub struct Span {
 }
 
 // Whether a tag byte announces a tag of more bytes.
+#[inline(always)]
 fn high_tag(t: u8) -> bool
     ensures { result ≡ high_tag t }
 {
@@ -39,6 +40,7 @@ fn high_tag(t: u8) -> bool
 }
 
 // The byte at a place, as a number to count with.
+#[inline(always)]
 fn byte_at(s: &[u8], at: usize) -> usize
     requires { at < length s.now }
     ensures { ByteAt s.now at result }
@@ -116,6 +118,7 @@ fn long_4(s: &[u8], at: usize, to: usize) -> Option<Length>
 }
 
 // The length that is written at `at`, in a slice of which nothing from `to` on is read.
+#[inline(always)]
 fn read_length(s: &[u8], at: usize, to: usize) -> Option<Length>
     ensures { result ≡ read_length s.now at to }
 {
@@ -123,11 +126,14 @@ fn read_length(s: &[u8], at: usize, to: usize) -> Option<Length>
         return None;
     }
     let first = byte_at(s, at);
-    match first {
-        0..0x80 => Some(Length {
+    // Most lengths are of this form: tested by itself it comes before the others.
+    if first < 0x80 {
+        return Some(Length {
             len: first,
             next: at + 1,
-        }),
+        });
+    }
+    match first {
         0x81 => long_1(s, at, to),
         0x82 => long_2(s, at, to),
         0x83 => long_3(s, at, to),
@@ -137,6 +143,7 @@ fn read_length(s: &[u8], at: usize, to: usize) -> Option<Length>
 }
 
 // The value at `from`, whose content is shorter than `limit` and ends at `to` or before.
+#[inline(always)]
 pub fn read_limited(s: &[u8], from: usize, to: usize, limit: usize) -> Option<Value>
     ensures { result ≡ read_limited s.now from to limit }
 {
@@ -159,6 +166,7 @@ pub fn read_limited(s: &[u8], from: usize, to: usize, limit: usize) -> Option<Va
 }
 
 // The value at `from`, as a certificate may hold it.
+#[inline(always)]
 pub fn read_value(s: &[u8], from: usize, to: usize) -> Option<Value>
     ensures { result ≡ read_value s.now from to }
 {
@@ -166,6 +174,7 @@ pub fn read_value(s: &[u8], from: usize, to: usize) -> Option<Value>
 }
 
 // The content of the value at `from`, if one stands there and has the tag; else the refusal that the caller gives.
+#[inline(always)]
 pub fn expect(s: &[u8], from: usize, to: usize, tag: u8, refusal: Refusal) -> Result<Span, Refusal>
     ensures { result ≡ expect_at s.now from to tag refusal }
 {

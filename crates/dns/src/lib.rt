@@ -24,6 +24,7 @@ fn stands_for(p: &[u8], q: &[u8]) -> bool
 }
 
 // Whether p, its star taken as a label, is in the subtree of the entry q.
+#[tactic(auto, using(der::proofs::Laws::tests, texts::proofs::Laws::rest_all), unfolding(crate::specs::Model::in_subtree))]
 fn in_subtree(p: &[u8], q: &[u8]) -> bool
     ensures { result ≡ in_subtree p.now q.now }
 {

@@ -18,6 +18,7 @@ pub struct Seen {
 }
 
 // The base of the entry at `at`; the next entry begins where the base ends. A base and nothing after it: no minimum and no maximum.
+#[inline(always)]
 fn base_at(s: &[u8], at: usize, to: usize) -> Result<Name, Refusal>
     ensures { result ≡ base_at s.now at to }
 {
@@ -31,6 +32,7 @@ fn base_at(s: &[u8], at: usize, to: usize) -> Result<Name, Refusal>
 
 // Whether the name p is taken to be in the subtree of the base q, which is of the same kind. No directory name and no URI is taken to
 // be in a permitted subtree, or out of an excluded one; for the other kinds no subtree is understood.
+#[inline(always)]
 fn compare(excluded: bool, kind: u8, p: &[u8], q: &[u8]) -> Result<bool, Refusal>
     ensures { result ≡ compared excluded kind p.now q.now }
 {
@@ -44,6 +46,7 @@ fn compare(excluded: bool, kind: u8, p: &[u8], q: &[u8]) -> Result<bool, Refusal
 }
 
 // What a comparison with the entry before `next` comes to: where to go on, and what was seen by then.
+#[inline(always)]
 fn settle(
     excluded: bool,
     seen: Seen,
@@ -61,6 +64,7 @@ fn settle(
 }
 
 // The entry at `at` against the name p of a kind.
+#[inline(always)]
 fn judge(
     s: &[u8],
     at: usize,
@@ -81,6 +85,7 @@ fn judge(
 }
 
 // The answer of a list that was read to its end: a name for which there are permitted entries is in one of them.
+#[inline(always)]
 fn close(seen: Seen) -> Result<(), Refusal>
     ensures { result ≡ outcome (closed seen) }
 {

@@ -23,6 +23,7 @@ pub struct Beginning {
 }
 
 // The three values of a certificate's content: RFC 5280, 4.1.1.
+#[inline(always)]
 fn parts_in(s: &[u8], from: usize, to: usize) -> Result<Envelope, Refusal>
     ensures { result ≡ parts_in s.now from to }
 {
@@ -45,6 +46,7 @@ fn parts_in(s: &[u8], from: usize, to: usize) -> Result<Envelope, Refusal>
 }
 
 // A certificate's content, with nothing after it.
+#[inline(always)]
 pub fn envelope_of(s: &[u8]) -> Result<Envelope, Refusal>
     ensures { result ≡ opened s.now }
 {
@@ -57,6 +59,7 @@ pub fn envelope_of(s: &[u8]) -> Result<Envelope, Refusal>
 }
 
 // The version, which must be v3, written 2: RFC 5280, 4.1.2.1.
+#[inline(always)]
 fn version_at(s: &[u8], from: usize, to: usize) -> Result<Span, Refusal>
     ensures { result ≡ version_at s.now from to }
 {
@@ -69,6 +72,7 @@ fn version_at(s: &[u8], from: usize, to: usize) -> Result<Span, Refusal>
 }
 
 // Version, serial number and algorithm, which must be the one beside the signed bytes: RFC 5280, 4.1.1.2.
+#[inline(always)]
 pub fn begin(s: &[u8], from: usize, to: usize, outer: Span) -> Result<Beginning, Refusal>
     ensures { result ≡ begun s.now from to outer }
 {

@@ -7,7 +7,23 @@ ghost use Rattle.extensions.specs.Model.{number, number_of, known_kind, kind_of,
 use der::Span;
 use refusal::Refusal;
 
-// The kinds of extension that are known: RFC 5280, 4.2.1.
+// The last number of a known extension's identifier, id-ce and this: RFC 5280, 4.2.1.
+pub const KEY_USAGE: u8 = 15;
+
+pub const ALTERNATIVE_NAME: u8 = 17;
+
+pub const BASIC_CONSTRAINTS: u8 = 19;
+
+pub const NAME_CONSTRAINTS: u8 = 30;
+
+pub const DISTRIBUTION_POINTS: u8 = 31;
+
+pub const KEY_PURPOSES: u8 = 37;
+
+// Stands for every other identifier.
+pub const UNKNOWN: u8 = 0;
+
+// The kinds of extension that are known.
 #[derive(Clone, Copy)]
 enum Kind {
     KeyUsage,
@@ -59,21 +75,23 @@ struct Find {
 }
 
 // The kind whose identifier is id-ce and this number.
+#[inline(always)]
 fn known_kind(n: u8) -> Option<Kind>
     ensures { number_of result ≡ known_kind n }
 {
     match n {
-        15 => Some(Kind::KeyUsage),
-        17 => Some(Kind::AlternativeName),
-        19 => Some(Kind::BasicConstraints),
-        30 => Some(Kind::NameConstraints),
-        31 => Some(Kind::DistributionPoints),
-        37 => Some(Kind::KeyPurposes),
+        KEY_USAGE => Some(Kind::KeyUsage),
+        ALTERNATIVE_NAME => Some(Kind::AlternativeName),
+        BASIC_CONSTRAINTS => Some(Kind::BasicConstraints),
+        NAME_CONSTRAINTS => Some(Kind::NameConstraints),
+        DISTRIBUTION_POINTS => Some(Kind::DistributionPoints),
+        KEY_PURPOSES => Some(Kind::KeyPurposes),
         _ => None,
     }
 }
 
 // The kind of the identifier that stands between the places: 55 1d, which is id-ce, and one byte.
+#[inline(always)]
 fn kind_of(s: &[u8], from: usize, to: usize) -> Option<Kind>
     ensures { number_of result ≡ kind_of s.now from to }
 {
@@ -85,6 +103,7 @@ fn kind_of(s: &[u8], from: usize, to: usize) -> Option<Kind>
 
 // The slot of a kind.
 #[tactic(auto, unfolding(crate::specs::Model::slot_of, crate::specs::Model::number))]
+#[inline(always)]
 fn slot_of(known: Known, kind: Kind) -> Slot
     ensures { result ≡ slot_of known (number kind) }
 {
@@ -100,6 +119,7 @@ fn slot_of(known: Known, kind: Kind) -> Slot
 
 // The slots with a new one for `kind`.
 #[tactic(auto, unfolding(crate::specs::Model::set_slot, crate::specs::Model::put, crate::specs::Model::number))]
+#[inline(always)]
 fn set_slot(known: Known, kind: Kind, new: Slot) -> Known
     ensures { result ≡ set_slot known (number kind) new }
 {
@@ -131,6 +151,7 @@ fn set_slot(known: Known, kind: Kind, new: Slot) -> Known
     }
 }
 
+#[inline(always)]
 fn none_known() -> Known
     ensures { result ≡ none_known }
 {
@@ -145,6 +166,7 @@ fn none_known() -> Known
 }
 
 // Identifier, criticality and value. What comes after them is the caller's.
+#[inline(always)]
 fn extension_in(s: &[u8], from: usize, to: usize) -> Result<Extension, Refusal>
     ensures { result ≡ extension_in s.now from to }
 {
@@ -159,6 +181,7 @@ fn extension_in(s: &[u8], from: usize, to: usize) -> Result<Extension, Refusal>
 }
 
 // What is kept of a known extension's value: of key usage all, of each other the content of the one SEQUENCE that it is.
+#[inline(always)]
 fn content_of(s: &[u8], kind: Kind, value: Span) -> Result<Span, Refusal>
     ensures { result ≡ content_of s.now (number kind) value }
 {
@@ -173,6 +196,7 @@ fn content_of(s: &[u8], kind: Kind, value: Span) -> Result<Span, Refusal>
 }
 
 // What to keep of one more extension, beside the slots so far.
+#[inline(always)]
 fn remember(s: &[u8], x: Extension, known: Known, strict: bool) -> Result<Option<Find>, Refusal>
     ensures { ruled known result ≡ remembered s.now x known strict }
 {
@@ -190,6 +214,7 @@ fn remember(s: &[u8], x: Extension, known: Known, strict: bool) -> Result<Option
 }
 
 // What to keep of the extension at `at`, and the place after it. The extension is judged before what is left over in it.
+#[inline(always)]
 fn take_one(
     s: &[u8],
     at: usize,
@@ -209,6 +234,7 @@ fn take_one(
 }
 
 // The extensions between the places, one after the other. The slots are changed here alone, where one is filled.
+#[inline(always)]
 fn gather(s: &[u8], from: usize, to: usize, strict: bool) -> Result<Known, Refusal>
     ensures { result ≡ gathered s.now from to strict }
 {
@@ -231,6 +257,7 @@ fn gather(s: &[u8], from: usize, to: usize, strict: bool) -> Result<Known, Refus
 
 // The extensions that end the signed content, or none: RFC 5280, 4.1.2.9. Unique identifiers stand where they are looked for, and
 // are refused.
+#[inline(always)]
 pub fn all_at(s: &[u8], from: usize, to: usize, strict: bool) -> Result<Known, Refusal>
     ensures { result ≡ extensions_at s.now from to strict }
 {
@@ -239,12 +266,10 @@ pub fn all_at(s: &[u8], from: usize, to: usize, strict: bool) -> Result<Known, R
     }
     let field = der::expect(s, from, to, 0xa3, Refusal::TRAILING_CERTIFICATE_EXTENSIONS)?;
     let list = der::expect(s, field.start, field.end, 0x30, Refusal::TRAILING_EXTENSION)?;
-    let known = gather(s, list.start, list.end, strict)?;
-    if list.end != field.end {
-        return Err(Refusal::TRAILING_CERTIFICATE_EXTENSIONS);
+    // The slots are handed on as they are: to open and close the result would copy them.
+    match gather(s, list.start, list.end, strict) {
+        Ok(_) if list.end != field.end => Err(Refusal::TRAILING_CERTIFICATE_EXTENSIONS),
+        Ok(_) if field.end != to => Err(Refusal::TRAILING_CERTIFICATE_TBS_CERTIFICATE),
+        kept => kept,
     }
-    if field.end != to {
-        return Err(Refusal::TRAILING_CERTIFICATE_TBS_CERTIFICATE);
-    }
-    Ok(known)
 }

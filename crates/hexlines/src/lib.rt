@@ -12,7 +12,8 @@
 // and goes from line to line:
 //
 //     for line in text.split_inclusive(|b| *b == b'\n') {
-//         let count = hexlines::bytes(line, 0, hexlines::line_end(line, 0), out);
+//         let line = line.strip_suffix(b"\n").unwrap_or(line);
+//         let count = hexlines::bytes(line, 0, line.len(), out);
 //         show(to, &out[..count])?;
 //     }
 #![tactic(auto)]
@@ -98,7 +99,7 @@ pub fn padded(text: &[u8], at: usize, end: usize, out: &mut [u8]) -> usize
 
 // The place of the first `+`, or the end.
 fn plus_at(text: &[u8], at: usize, end: usize) -> usize {
-    let line = text.get(at..end).unwrap_or(&[]);
+    let line = text.get(at..min(end, text.len())).unwrap_or(&[]);
     match line.iter().position(|b| *b == b'+') {
         Some(n) => at + n,
         None => end,
@@ -114,7 +115,10 @@ fn decimal(text: &[u8], plus: usize, end: usize) -> usize
     }
     let mut value = 0;
     for b in text.get(plus + 1..end).unwrap_or(&[]) {
-        value = min(value * 10 + digit(*b) as usize, 9999999);
+        value = value * 10 + digit(*b) as usize;
+        if 9999999 <= value {
+            return 9999999;
+        }
     }
     value
 }

@@ -59,8 +59,9 @@ fn in_subnet(p: &[u8], address: &[u8], mask: &[u8]) -> Result<bool, Refusal>
 {
     let mut full = true;
     for (i, m) in mask.iter().enumerate() {
-        match masked_byte(full, *m, p[i], address[i]) {
-            Masked::Same => full = *m == 255,
+        let byte = *m;
+        match masked_byte(full, byte, p[i], address[i]) {
+            Masked::Same => full = byte == 255,
             Masked::Differs => return Ok(false),
             Masked::Broken => return Err(Refusal::INVALID_NETWORK_MASK_CONSTRAINT),
         }

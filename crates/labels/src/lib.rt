@@ -35,26 +35,28 @@ fn whole(l: Label) -> bool
 fn take_byte(l: Label, b: u8) -> Option<Label>
     ensures { result ≡ take_byte l b }
 {
-    if b == b'.' {
-        return if whole(l) { Some(FRESH) } else { None };
-    }
-    if l.size >= LONGEST_LABEL {
-        return None;
-    }
-    let size = l.size + 1;
     match b {
+        // Most bytes are small letters, so they are looked for first.
+        b'a'..=b'z' if l.size < LONGEST_LABEL => Some(Label {
+            size: l.size + 1,
+            hyphen: false,
+            digits: false,
+        }),
+        b'.' if whole(l) => Some(FRESH),
+        b'.' => None,
+        _ if l.size >= LONGEST_LABEL => None,
         b'-' if l.size > 0 => Some(Label {
-            size,
+            size: l.size + 1,
             hyphen: true,
             digits: false,
         }),
         b'0'..=b'9' => Some(Label {
-            size,
+            size: l.size + 1,
             hyphen: false,
             digits: l.digits,
         }),
-        b'A'..=b'Z' | b'a'..=b'z' | b'_' => Some(Label {
-            size,
+        b'A'..=b'Z' | b'_' => Some(Label {
+            size: l.size + 1,
             hyphen: false,
             digits: false,
         }),
@@ -77,6 +79,7 @@ fn host(h: &[u8]) -> bool
 }
 
 // Whether a text is a name that a certificate may present.
+#[tactic(auto, using(der::proofs::Laws::tests), unfolding(crate::specs::Model::valid_presented, crate::specs::Model::valid_starred))]
 pub fn valid_presented(h: &[u8]) -> bool
     ensures { result ≡ valid_presented h.now }
 {

@@ -13,11 +13,12 @@ use rows::Outline;
 // As many intermediates may stand between the end entity and the anchor.
 pub const MOST_INTERMEDIATES: usize = 6;
 
-// The certificates of a request by number, and what was read of them. `anchors` is how many numbers come before the intermediates.
+// The certificates of a request by number, and what was read of them. `anchors` is how many numbers come before the intermediates. The bytes
+// may outlive the table and the list ('l) that name them.
 #[derive(Clone, Copy)]
-pub struct Lent<'a> {
-    pub table: &'a [[usize; 37]],
-    pub issuers: &'a [&'a [u8]],
+pub struct Lent<'l, 'a> {
+    pub table: &'l [[usize; 37]],
+    pub issuers: &'l [&'a [u8]],
     pub end: &'a [u8],
     pub anchors: usize,
 }
@@ -41,17 +42,17 @@ pub struct Policy<'a> {
 }
 
 #[derive(Clone, Copy)]
-pub struct Request<'a> {
-    pub table: &'a [[usize; 37]],
-    pub issuers: &'a [&'a [u8]],
+pub struct Request<'l, 'a> {
+    pub table: &'l [[usize; 37]],
+    pub issuers: &'l [&'a [u8]],
     pub end: &'a [u8],
-    pub anchors: Anchors<'a>,
-    pub policy: Policy<'a>,
+    pub anchors: Anchors<'l>,
+    pub policy: Policy<'l>,
 }
 
-impl<'a> Request<'a> {
+impl<'l, 'a> Request<'l, 'a> {
     // The certificates: there are as many anchors as subjects.
-    pub fn lent(&self) -> Lent<'a>
+    pub fn lent(&self) -> Lent<'l, 'a>
         ensures { result ≡ lent_of self.now }
     {
         Lent {
@@ -63,8 +64,9 @@ impl<'a> Request<'a> {
     }
 }
 
-impl<'a> Lent<'a> {
+impl<'l, 'a> Lent<'l, 'a> {
     // The bytes of the certificate that has a number.
+    #[inline(always)]
     pub fn certificate(&self, number: usize) -> &'a [u8]
         ensures { result.now ≡ certificates self.now number }
     {
@@ -86,6 +88,7 @@ impl<'a> Lent<'a> {
     }
 
     // The outline of it.
+    #[inline(always)]
     pub fn outline(&self, number: usize) -> Result<Outline, Refusal>
         ensures { result ≡ outlined (readings self.now number) }
     {
@@ -95,6 +98,7 @@ impl<'a> Lent<'a> {
 }
 
 // The row of a number in a table of readings: the place among the intermediates, or the one after them.
+#[inline(always)]
 fn row_at(anchors: usize, count: usize, number: usize) -> usize
     ensures { result ≡ row_at anchors count number }
 {
@@ -105,6 +109,7 @@ fn row_at(anchors: usize, count: usize, number: usize) -> usize
 }
 
 // The number at a place of a path.
+#[inline(always)]
 pub fn number_at(path: [usize; 7], k: usize) -> usize
     ensures { result ≡ get_or path k 0 }
 {

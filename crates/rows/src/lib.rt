@@ -82,6 +82,7 @@ pub fn refused(e: Refusal) -> [usize; 37]
     row
 }
 
+#[inline(always)]
 fn span_at(row: [usize; 37], k: usize) -> Span
     requires { k < 36 }
     ensures { result ≡ span_in row k }
@@ -92,6 +93,7 @@ fn span_at(row: [usize; 37], k: usize) -> Span
     }
 }
 
+#[inline(always)]
 fn slot_at(row: [usize; 37], k: usize) -> Slot
     requires { k < 35 }
     ensures { result ≡ slot_in row k }
@@ -150,6 +152,7 @@ pub fn outline_of(c: Certificate) -> Outline
 }
 
 // The outline of the certificate whose places a row holds.
+#[inline(always)]
 pub fn outline_in(row: [usize; 37]) -> Outline
     ensures { result ≡ outline_of (certificate_in row) }
 {

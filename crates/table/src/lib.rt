@@ -64,6 +64,7 @@ fn outline_read(s: &[u8]) -> Result<Outline, Refusal>
 }
 
 // The same of the certificate s, whose row has the number i.
+#[inline(always)]
 pub fn outline_at(table: &[[usize; 37]], i: usize, s: &[u8]) -> Result<Outline, Refusal>
     ensures { result ≡ outlined (reading_in table.now i s.now) }
 {

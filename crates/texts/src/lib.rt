@@ -5,10 +5,14 @@ ghost use Rattle.std.specs.Prelude.{◌≡◌, drop};
 ghost use Rattle.texts.specs.Model.{begins, relative_text, from_dot};
 
 // Whether a text begins with a byte.
+#[tactic(auto, using(crate::proofs::Laws::begins_none, crate::proofs::Laws::begins_some))]
 pub fn begins(h: &[u8], b: u8) -> bool
     ensures { result ≡ begins h.now b }
 {
-    h.first() == Some(&b)
+    match h {
+        [first, ..] => *first == b,
+        [] => false,
+    }
 }
 
 // A text without its first byte.
@@ -22,16 +26,22 @@ pub fn rest(h: &[u8]) -> &[u8]
 }
 
 // A text without the dot that ends it, if one does.
+#[tactic(auto, unfolding(crate::specs::Model::relative_text))]
 pub fn relative(h: &[u8]) -> &[u8]
     ensures { result.now ≡ relative_text h.now }
 {
-    h.strip_suffix(b".").unwrap_or(h)
+    match h {
+        [before @ .., b'.'] => before,
+        _ => h,
+    }
 }
 
 // What a text has from its first dot on.
 pub fn from_dot(h: &[u8]) -> &[u8]
     ensures { result.now ≡ from_dot h.now }
 {
-    let at = h.iter().position(|b| *b == b'.').unwrap_or(h.len());
-    &h[at..]
+    match h.iter().position(|b| *b == b'.') {
+        Some(at) => &h[at..],
+        None => &[],
+    }
 }

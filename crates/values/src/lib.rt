@@ -8,6 +8,7 @@ use der::Span;
 use refusal::Refusal;
 
 // The value of a content's first byte and the place after it, if that byte is all of the content.
+#[inline(always)]
 fn only_byte(from: usize, to: usize, value: bool) -> Result<(bool, usize), Refusal>
     requires { from < to }
     ensures { result ≡ only_byte from to value }
@@ -19,6 +20,7 @@ fn only_byte(from: usize, to: usize, value: bool) -> Result<(bool, usize), Refus
 }
 
 // The value of a BOOLEAN's content, which is all that stands between the places, and the place after it.
+#[inline(always)]
 fn truth_in(s: &[u8], from: usize, to: usize) -> Result<(bool, usize), Refusal>
     ensures { result ≡ truth_in s.now from to }
 {
@@ -33,6 +35,7 @@ fn truth_in(s: &[u8], from: usize, to: usize) -> Result<(bool, usize), Refusal>
 }
 
 // The BOOLEAN at `from` and the place after it: false, and nothing passed, where none stands there.
+#[inline(always)]
 pub fn read_bool(s: &[u8], from: usize, to: usize) -> Result<(bool, usize), Refusal>
     ensures { result ≡ read_bool s.now from to }
 {
@@ -47,6 +50,7 @@ pub fn read_bool(s: &[u8], from: usize, to: usize) -> Result<(bool, usize), Refu
 }
 
 // The digits of an INTEGER's content, if it is not negative and has no byte too many.
+#[inline(always)]
 fn positive_in(s: &[u8], from: usize, to: usize) -> Result<Span, Refusal>
     ensures { result ≡ positive_in s.now from to }
 {
@@ -69,6 +73,7 @@ fn positive_in(s: &[u8], from: usize, to: usize) -> Result<Span, Refusal>
 }
 
 // The INTEGER at `from`, which is not negative: where its digits stand, highest first, with no zero before them.
+#[inline(always)]
 pub fn nonnegative_at(s: &[u8], from: usize, to: usize) -> Result<Span, Refusal>
     ensures { result ≡ nonnegative s.now from to }
 {
@@ -77,6 +82,7 @@ pub fn nonnegative_at(s: &[u8], from: usize, to: usize) -> Result<Span, Refusal>
 }
 
 // The one digit between the places, and the place after it.
+#[inline(always)]
 fn small_in(s: &[u8], from: usize, to: usize) -> Result<(u8, usize), Refusal>
     ensures { result ≡ small_in s.now from to }
 {
@@ -87,6 +93,7 @@ fn small_in(s: &[u8], from: usize, to: usize) -> Result<(u8, usize), Refusal>
 }
 
 // The INTEGER at `from`, from 0 to 255, and the place after it.
+#[inline(always)]
 pub fn read_small(s: &[u8], from: usize, to: usize) -> Result<(u8, usize), Refusal>
     ensures { result ≡ read_small s.now from to }
 {

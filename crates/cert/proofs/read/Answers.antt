@@ -16,10 +16,10 @@ pub returns-in_err-fields : goal.returns-in_err-fields
 unfolding read_certificate on_parts on_begun on_found on_kept
 returns-in_err-fields c = search rules
 
-pub returns-in_err-known : goal.returns-in_err-known
+pub returns-in-Err : goal.returns-in-Err
 unfolding read_certificate on_parts on_begun on_found on_kept
-returns-in_err-known c = search rules
+returns-in-Err c = search rules
 
-pub returns : goal.returns
+pub returns-in-Ok : goal.returns-in-Ok
 unfolding read_certificate on_parts on_begun on_found on_kept
-returns c = search rules
+returns-in-Ok c = search rules

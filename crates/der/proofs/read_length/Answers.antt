@@ -1,4 +1,3 @@
-use Prim.Native.Nat.{◌<◌, ◌≤◌}
 use native.Mathlib.Omega.{arith}
 use mathlib.Core.Path.{sym, ◌∙◌}
 use lib.Dec.{lit<, lit≤}
@@ -10,11 +9,9 @@ pub returns-then-s-to : goal.returns-then-s-to
 unfolding read_length
 returns-then-s-to c = grind (arith, tests)
 
-pub returns-in-0-to-127 : goal.returns-in-0-to-127
+pub returns-then-first-lt128 : goal.returns-then-first-lt128
 unfolding read_length by_first
-returns-in-0-to-127 c =
-    let a : c.byte_at-first.result < 128 = omega arith in
-    search (tests, ← c.byte_at-first.ensures.is)
+returns-then-first-lt128 c = search (tests, ← c.byte_at-first.ensures.is)
 
 pub returns-in-129 : goal.returns-in-129
 returns-in-129 c =
@@ -36,5 +33,4 @@ pub returns-in_default : goal.returns-in_default
 unfolding read_length
 returns-in_default c =
     let b = c.byte_at-first in
-    let lo : 128 ≤ b.result = omega arith in
-    search (tests, ← b.ensures.is, first_none c.args.s.now c.args.at c.args.to b.result lo (λ e. omega arith) (λ e. omega arith) (λ e. omega arith) (λ e. omega arith))
+    search (tests, ← b.ensures.is, first_none c.args.s.now c.args.at c.args.to b.result c.if-first-lt128.false (λ e. omega arith) (λ e. omega arith) (λ e. omega arith) (λ e. omega arith))

@@ -13,22 +13,22 @@ pub returns-in_err-list : goal.returns-in_err-list
 unfolding extensions_at on_kept on_content
 returns-in_err-list c = let p = err_from_is_err_and c.from_residual-in_err-list.result c.from_residual-in_err-list.ensures.1 in grind (arith, tests)
 
-pub returns-in_err-known : goal.returns-in_err-known
-unfolding extensions_at on_kept on_content
-returns-in_err-known c = let p = err_from_is_err_and c.from_residual-in_err-known.result c.from_residual-in_err-known.ensures.1 in grind (arith, tests)
-
 pub returns-then-from-to : goal.returns-then-from-to
 unfolding extensions_at on_kept on_content
 returns-then-from-to c = grind (arith, tests)
 
-pub returns-then-list-field : goal.returns-then-list-field
+pub returns-in-Ok : goal.returns-in-Ok
 unfolding extensions_at on_kept on_content
-returns-then-list-field c = grind (arith, tests)
+returns-in-Ok c = grind (arith, tests)
 
-pub returns-then-field-to : goal.returns-then-field-to
+pub returns-in-Ok-2 : goal.returns-in-Ok-2
 unfolding extensions_at on_kept on_content
-returns-then-field-to c = grind (arith, tests)
+returns-in-Ok-2 c = grind (arith, tests)
 
-pub returns : goal.returns
+pub returns-in_default : goal.returns-in_default
 unfolding extensions_at on_kept on_content
-returns c = grind (arith, tests)
+returns-in_default c = grind (arith, tests)
+
+pub returns-in_default-2 : goal.returns-in_default-2
+unfolding extensions_at on_kept on_content
+returns-in_default-2 c = grind (arith, tests)

@@ -17,17 +17,13 @@ returns-in_err-at c =
     c.from_residual.ensures ∙ stop _ _ _ _ _ _ c.loop-at.invariant.1 (omega arith) (more_none _ found)
 
 pub loop-at-smaller : goal.loop-at-smaller
-loop-at-smaller c =
-    let found = sym c.read_value.ensures ∙ c.in_ok-at.was in
-    let p = value_places _ _ _ _ _ _ found in
-    omega arith
+loop-at-smaller c = let p = value_places _ _ _ _ _ _ (sym c.read_value.ensures ∙ c.in_ok-at.was) in omega arith
 
 pub loop-at-preserved : goal.loop-at-preserved
 loop-at-preserved c =
     let found = sym c.read_value.ensures ∙ c.in_ok-at.was in
     let p = value_places _ _ _ _ _ _ found in
-    let going = c.loop-at.invariant.1 in
-    (omega arith, turn _ _ _ _ _ _ _ going (omega arith) (omega arith) (more_value _ found))
+    (omega arith, turn _ _ _ _ _ _ _ c.loop-at.invariant.1 (omega arith) (omega arith) (more_value _ found))
 
 pub returns-then-at-to : goal.returns-then-at-to
 unfolding all_counted

@@ -8,8 +8,8 @@ returns-in-Ok-key c = rw (← c.in-Ok.ensures, c.in-Ok-key.is)
 
 pub returns-in-Err-key : goal.returns-in-Err-key
 unfolding asked_of keyed_of
-returns-in-Err-key c = rw (← c.in-Ok.ensures, c.in-Err-key.is, c.number.ensures)
+returns-in-Err-key c = rw (← c.in-Ok.ensures, c.in-Err-key.is) cc
 
 pub returns-in-Err : goal.returns-in-Err
 unfolding asked_of
-returns-in-Err c = rw (← c.in-Err.ensures, c.number-in-Err.ensures)
+returns-in-Err c = rw (← c.in-Err.ensures) cc
